@@ -1,0 +1,169 @@
+-- Each public function's contract determines its result: any two results that meet it, at the same arguments, are equal.
+-- `Post` is a function's `ensures` as the check reads it off the source, so no contract is written a second time here.
+-- Assumes nothing.
+use Prim.Native.Nat.{ℕ, _-_}
+use mathlib.Core.Path.{_≡_, refl, sym, ap, _∙_}
+use mathlib.Core.List.{List, [], _∷_}
+use lib.ListN.{getD}
+use native.Mathlib.Omega.{arith}
+use contract.Lifetimes.{Lfts}
+use denote.Triple.Clauses.{AtExit}
+use borrow.Fn.Kinds.{PK, RK, Dens, resT, endedOf}
+use borrow.Fn.Kinds as kinds
+use Rattle.bits.specs.Out.{Out, taken, refused}
+use Rattle.bits.specs.Refusals.{numberOf}
+use Rattle.bits.specs.Answers.{answer, byteAnswer, wordAnswer}
+use Rattle.bits.specs.declared.cursor.Cursor.{Cursor}
+use Rattle.bits.specs.declared.refusal.Refusal.{Refusal}
+use Rattle.bits.specs.declared.refusal.Refusal.the-variants.{Kind, Size, Short, Zeros, Rule, Regions, Tail, Slot, Table, Rows}
+use Rattle.bits.specs.declared.read.Read.{Read}
+use Rattle.bits.specs.declared.read.Read.the-variants.{Value, Refused}
+use Rattle.bits.specs.declared.read.ByteRead.{ByteRead}
+use Rattle.bits.specs.declared.read.ByteRead.the-variants as byte
+use Rattle.bits.specs.declared.read.WordRead.{WordRead}
+use Rattle.bits.specs.declared.read.WordRead.the-variants as word
+use Rattle.bits.proofs.element.bit.Kinds as bit-kinds
+use Rattle.bits.proofs.element.bit.Reads as bit-reads
+use Rattle.bits.proofs.element.left.Kinds as left-kinds
+use Rattle.bits.proofs.element.left.Reads as left-reads
+use Rattle.bits.proofs.element.number.Kinds as number-kinds
+use Rattle.bits.proofs.element.number.Reads as number-reads
+use Rattle.bits.proofs.element.u.Kinds as u-kinds
+use Rattle.bits.proofs.element.u.Reads as u-reads
+use Rattle.bits.proofs.element.byte.Kinds as byte-kinds
+use Rattle.bits.proofs.element.byte.Reads as byte-reads
+use Rattle.bits.proofs.element.word.Kinds as word-kinds
+use Rattle.bits.proofs.element.word.Reads as word-reads
+use Rattle.bits.proofs.element.ue.Kinds as ue-kinds
+use Rattle.bits.proofs.element.ue.Reads as ue-reads
+use Rattle.bits.proofs.element.signed.Kinds as signed-kinds
+use Rattle.bits.proofs.element.signed.Reads as signed-reads
+use Rattle.bits.proofs.identifier.identifier.Kinds as identifier-kinds
+use Rattle.bits.proofs.identifier.identifier.Reads as identifier-reads
+use Rattle.bits.proofs.ending.tail.Kinds as tail-kinds
+use Rattle.bits.proofs.ending.tail.Reads as tail-reads
+use Rattle.bits.proofs.refusal.Refusal.number.Kinds as refusal-number-kinds
+use Rattle.bits.proofs.refusal.Refusal.number.Reads as refusal-number-reads
+use Rattle.bits.proofs.refusal.Refusal.rule.Kinds as rule-kinds
+use Rattle.bits.proofs.refusal.Refusal.rule.Reads as rule-reads
+use Rattle.bits.proofs.refusal.Refusal.regions.Kinds as regions-kinds
+use Rattle.bits.proofs.refusal.Refusal.regions.Reads as regions-reads
+use Rattle.bits.proofs.read.Read.refusal.Kinds as read-refusal-kinds
+use Rattle.bits.proofs.read.Read.refusal.Reads as read-refusal-reads
+use Rattle.bits.proofs.read.ByteRead.refusal.Kinds as byte-refusal-kinds
+use Rattle.bits.proofs.read.ByteRead.refusal.Reads as byte-refusal-reads
+use Rattle.bits.proofs.read.WordRead.refusal.Kinds as word-refusal-kinds
+use Rattle.bits.proofs.read.WordRead.refusal.Reads as word-refusal-reads
+
+-- the arguments a fix the result: x and y, each with whatever stands at exit, are the same
+abbrev pub Determines : (n : ℕ) (ps : List (PK n)) (r : RK n) → kinds.Out n ps r → Type 0
+Determines n ps r Post =
+    (κs : Lfts n) (a : Dens κs ps) (x y : resT r κs .Denot) (s t : AtExit (endedOf n ps r) κs)
+    → Post κs a x s
+    → Post κs a y t
+    → x ≡ y
+
+-- ---- each answer's meaning tells its cases apart
+
+pub cursor-told : (a b : Cursor) → a .at ≡ b .at → a ≡ b
+cursor-told a b e i = record { at = e i }
+
+pub told-apart : {A X : Type 0} {a : A} {q : ℕ} {r : Refusal} → taken a q ≡ refused r → X
+told-apart e = let z : _≡_ {A = ℕ} 0 1 = cc in absurd (omega arith)
+
+pub read-told : (r t : Read) → answer r ≡ answer t → r ≡ t
+read-told (Value v c) (Value w d) e =
+    let k : v ≡ w = cc in
+    let l = cursor-told c d (cc) in
+    cc
+read-told (Value v c) (Refused r) e = told-apart e
+read-told (Refused r) (Value w d) e = told-apart (sym e)
+read-told (Refused r) (Refused t) e = let k : r ≡ t = cc in ap Refused k
+
+pub byte-told : (r t : ByteRead) → byteAnswer r ≡ byteAnswer t → r ≡ t
+byte-told (byte.Value v c) (byte.Value w d) e =
+    let k : v ≡ w = cc in
+    let l = cursor-told c d (cc) in
+    cc
+byte-told (byte.Value v c) (byte.Refused r) e = told-apart e
+byte-told (byte.Refused r) (byte.Value w d) e = told-apart (sym e)
+byte-told (byte.Refused r) (byte.Refused t) e = let k : r ≡ t = cc in ap byte.Refused k
+
+pub word-told : (r t : WordRead) → wordAnswer r ≡ wordAnswer t → r ≡ t
+word-told (word.Value v c) (word.Value w d) e =
+    let k : v ≡ w = cc in
+    let l = cursor-told c d (cc) in
+    cc
+word-told (word.Value v c) (word.Refused r) e = told-apart e
+word-told (word.Refused r) (word.Value w d) e = told-apart (sym e)
+word-told (word.Refused r) (word.Refused t) e = let k : r ≡ t = cc in ap word.Refused k
+
+-- and the numbers tell the refusals apart: this list has each at its number
+refusals : List Refusal
+refusals = Kind ∷ Size ∷ Short ∷ Zeros ∷ Rule ∷ Regions ∷ Tail ∷ Slot ∷ Table ∷ Rows ∷ []
+
+numbered : (r : Refusal) → getD refusals (numberOf r - 1) Kind ≡ r
+unfolding refusals
+numbered Kind = refl
+numbered Size = refl
+numbered Short = refl
+numbered Zeros = refl
+numbered Rule = refl
+numbered Regions = refl
+numbered Tail = refl
+numbered Slot = refl
+numbered Table = refl
+numbered Rows = refl
+
+pub refusal-told : (r t : Refusal) → numberOf r ≡ numberOf t → r ≡ t
+refusal-told r t e = sym (numbered r) ∙ ap (λ n. getD refusals (n - 1) Kind) e ∙ numbered t
+
+-- ---- the public functions
+
+pub bit-determined : Determines 1 bit-kinds.ps bit-kinds.r bit-reads.Post
+bit-determined κs a x y s t p q = p ∙ sym q
+
+pub left-determined : Determines 1 left-kinds.ps left-kinds.r left-reads.Post
+left-determined κs a x y s t p q = p ∙ sym q
+
+pub number-determined : Determines 1 number-kinds.ps number-kinds.r number-reads.Post
+number-determined κs a x y s t p q = p ∙ sym q
+
+pub u-determined : Determines 1 u-kinds.ps u-kinds.r u-reads.Post
+u-determined κs a x y s t p q = read-told x y (p ∙ sym q)
+
+pub byte-determined : Determines 1 byte-kinds.ps byte-kinds.r byte-reads.Post
+byte-determined κs a x y s t p q = byte-told x y (p ∙ sym q)
+
+pub word-determined : Determines 1 word-kinds.ps word-kinds.r word-reads.Post
+word-determined κs a x y s t p q = word-told x y (p ∙ sym q)
+
+pub ue-determined : Determines 1 ue-kinds.ps ue-kinds.r ue-reads.Post
+ue-determined κs a x y s t p q = read-told x y (p ∙ sym q)
+
+pub signed-determined : Determines 0 signed-kinds.ps signed-kinds.r signed-reads.Post
+signed-determined κs a x y s t p q = p ∙ sym q
+
+pub identifier-determined : Determines 1 identifier-kinds.ps identifier-kinds.r identifier-reads.Post
+identifier-determined κs a x y s t p q = p ∙ sym q
+
+pub tail-determined : Determines 1 tail-kinds.ps tail-kinds.r tail-reads.Post
+tail-determined κs a x y s t p q = p ∙ sym q
+
+pub refusal-number-determined : Determines 0 refusal-number-kinds.ps refusal-number-kinds.r refusal-number-reads.Post
+refusal-number-determined κs a x y s t p q = p ∙ sym q
+
+pub rule-determined : Determines 0 rule-kinds.ps rule-kinds.r rule-reads.Post
+rule-determined κs a x y s t p q = p ∙ sym q
+
+pub regions-determined : Determines 0 regions-kinds.ps regions-kinds.r regions-reads.Post
+regions-determined κs a x y s t p q = p ∙ sym q
+
+pub read-refusal-determined : Determines 0 read-refusal-kinds.ps read-refusal-kinds.r read-refusal-reads.Post
+read-refusal-determined κs a x y s t p q = p ∙ sym q
+
+pub byte-refusal-determined : Determines 0 byte-refusal-kinds.ps byte-refusal-kinds.r byte-refusal-reads.Post
+byte-refusal-determined κs a x y s t p q = p ∙ sym q
+
+pub word-refusal-determined : Determines 0 word-refusal-kinds.ps word-refusal-kinds.r word-refusal-reads.Post
+word-refusal-determined κs a x y s t p q = p ∙ sym q

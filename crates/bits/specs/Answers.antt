@@ -1,0 +1,21 @@
+-- What the code's answers mean, case by case.
+use Prim.Native.Nat.{ℕ}
+use Rattle.bits.specs.Out.{Out, taken, refused}
+use Rattle.bits.specs.declared.read.Read.{Read}
+use Rattle.bits.specs.declared.read.Read.the-variants.{Value, Refused}
+use Rattle.bits.specs.declared.read.ByteRead.{ByteRead}
+use Rattle.bits.specs.declared.read.ByteRead.the-variants as byte
+use Rattle.bits.specs.declared.read.WordRead.{WordRead}
+use Rattle.bits.specs.declared.read.WordRead.the-variants as word
+
+abbrev pub answer : Read → Out ℕ
+answer (Value v c) = taken v (c .at)
+answer (Refused r) = refused r
+
+abbrev pub byteAnswer : ByteRead → Out ℕ
+byteAnswer (byte.Value v c) = taken v (c .at)
+byteAnswer (byte.Refused r) = refused r
+
+abbrev pub wordAnswer : WordRead → Out ℕ
+wordAnswer (word.Value v c) = taken v (c .at)
+wordAnswer (word.Refused r) = refused r

@@ -1,0 +1,23 @@
+-- What a reading comes to: what was read, with the number of the bit after it; or a refusal.
+use Prim.Native.Nat.{ℕ, _+_}
+use Rattle.bits.specs.declared.refusal.Refusal.{Refusal}
+use Rattle.bits.specs.declared.refusal.Refusal.the-variants.{Short}
+
+pub data Out (A : Type 0) : Type 0 where
+  taken : A → ℕ → Out A
+  refused : Refusal → Out A
+
+-- o, and then k of what was read and of the bit after it; a refusal is handed up whole
+abbrev pub after : {A B : Type 0} → Out A → (A → ℕ → Out B) → Out B
+after (taken a q) k = k a q
+after (refused r) k = refused r
+
+-- what a reading of the bits from p on comes to, its bits counted from the payload's first
+abbrev pub placed : {A : Type 0} → ℕ → Out A → Out A
+placed p (taken a n) = taken a (p + n)
+placed p (refused r) = refused r
+
+-- why there is no value; asked only where there is none
+abbrev pub refusalIn : {A : Type 0} → Out A → Refusal
+refusalIn (taken a q) = Short
+refusalIn (refused r) = r

@@ -1,0 +1,32 @@
+-- The numbers that a caller gets, and what a rule says of an element.
+use Prim.Native.Nat.{ℕ}
+use mathlib.Core.Bool.{Bool, true, false}
+use Rattle.bits.specs.declared.refusal.Refusal.{Refusal}
+use Rattle.bits.specs.declared.refusal.Refusal.the-variants.{Kind, Size, Short, Zeros, Rule, Regions, Tail, Slot, Table, Rows}
+
+-- the table of 01, "Numbers a caller gets"
+abbrev pub numberOf : Refusal → ℕ
+numberOf Kind = 1
+numberOf Size = 2
+numberOf Short = 3
+numberOf Zeros = 4
+numberOf Rule = 5
+numberOf Regions = 6
+numberOf Tail = 7
+numberOf Slot = 8
+numberOf Table = 9
+numberOf Rows = 10
+
+-- how a rule can be broken: 5, or 6
+pub data Breach : Type 0 where
+  broken : Breach
+  tooMany : Breach
+
+abbrev pub refusalOf : Breach → Refusal
+refusalOf broken = Rule
+refusalOf tooMany = Regions
+
+-- what a rule says of an element's meaning
+pub data Verdict : Type 0 where
+  fine : Verdict
+  against : Breach → Verdict

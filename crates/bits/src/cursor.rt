@@ -1,0 +1,5 @@
+// Where a reading stands.
+pub struct Cursor {
+    // The next bit's number.
+    pub at: usize,
+}

@@ -1,0 +1,64 @@
+// What reading an element answers: its value with the cursor after it, or the refusal. One enum for each width of value.
+use crate::cursor::Cursor;
+use crate::refusal::Refusal;
+ghost use mathlib.Core.Path.{_≡_};
+ghost use Rattle.bits.specs.Out.{refusalIn};
+ghost use Rattle.bits.specs.Answers.{answer, byteAnswer, wordAnswer};
+
+pub enum Read {
+    Value(u32, Cursor),
+    Refused(Refusal),
+}
+
+// Of an element of at most 8 bits.
+pub enum ByteRead {
+    Value(u8, Cursor),
+    Refused(Refusal),
+}
+
+// Of an element of at most 16 bits.
+pub enum WordRead {
+    Value(u16, Cursor),
+    Refused(Refusal),
+}
+
+// Where a reading goes on, or why it does not. It stands beside a value that holds an array, which no enum can hold; on a refusal that
+// value is zeros.
+pub enum Onward {
+    Next(Cursor),
+    Refused(Refusal),
+}
+
+impl Read {
+    // Why there is no value; asked only where there is none.
+    pub fn refusal(self) -> Refusal
+        ensures { λ r. ⌜ r ≡ refusalIn (answer self) ⌝ }
+    {
+        match self {
+            Read::Refused(why) => why,
+            Read::Value(_, _) => Refusal::Short,
+        }
+    }
+}
+
+impl ByteRead {
+    pub fn refusal(self) -> Refusal
+        ensures { λ r. ⌜ r ≡ refusalIn (byteAnswer self) ⌝ }
+    {
+        match self {
+            ByteRead::Refused(why) => why,
+            ByteRead::Value(_, _) => Refusal::Short,
+        }
+    }
+}
+
+impl WordRead {
+    pub fn refusal(self) -> Refusal
+        ensures { λ r. ⌜ r ≡ refusalIn (wordAnswer self) ⌝ }
+    {
+        match self {
+            WordRead::Refused(why) => why,
+            WordRead::Value(_, _) => Refusal::Short,
+        }
+    }
+}

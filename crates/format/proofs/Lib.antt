@@ -1,0 +1,4 @@
+pub mod Run
+pub mod Alike
+pub mod Payload
+pub mod Steps

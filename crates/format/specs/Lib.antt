@@ -1,0 +1,5 @@
+pub mod Format
+pub mod Coded
+pub mod Stopped
+pub mod Varied
+pub mod Syntax

@@ -1,0 +1,86 @@
+-- The words in which the tables of the messages are written: u(n), ue(v), i(32), bytes, reserved bits, guard band types, rules, and
+-- parts that may be absent.
+use Prim.Native.Nat.{ℕ, _*_}
+use mathlib.Core.Bool.{Bool, true, false, cond, _&&_, _||_}
+use mathlib.Core.List.{List}
+use lib.Dec.{leb, ltb, eqb}
+use lib.IntN.{ℤ}
+use lib.Signed.{leZ}
+use Rattle.bits.specs.Refusals.{Breach, broken, Verdict, fine, against}
+use Rattle.bits.specs.Coding.{bits, golomb}
+use Rattle.bits.specs.Signed.{signedOf}
+use Rattle.bits.specs.Identifier.{bytesOf}
+use Rattle.format.specs.Format.{Element, coded, reserved, guardType, Format, done, read}
+
+-- ---- elements
+
+-- the rule that finds every meaning fine
+abbrev pub any : ℕ → Verdict
+any m = fine
+
+abbrev pub u : ℕ → Format ℕ
+u n = read (coded (bits n) any) done
+
+abbrev pub ue : Format ℕ
+ue = read (coded golomb any) done
+
+-- i(32), judged by the number that it is
+abbrev pub i32 : (ℤ → Verdict) → Format ℤ
+i32 rule = read (coded (bits 32) (λ c. rule (signedOf c))) (λ c. done (signedOf c))
+
+-- one element of n bytes
+abbrev pub bytes : ℕ → Format (List ℕ)
+bytes n = read (coded (bits (8 * n)) any) (λ v. done (bytesOf n v))
+
+-- n reserved bits
+abbrev pub blank : ℕ → Format ℕ
+blank n = read (reserved n) done
+
+-- a guard band type
+abbrev pub guard : Format ℕ
+guard = read (guardType any) done
+
+-- guard band types 4 to 7, which all mean 4, are handed out as 0
+abbrev pub handed : ℕ → ℕ
+handed m = cond (ltb m 4) m 0
+
+infixl 40 _must_
+-- an element with a rule of its own
+abbrev pub _must_ : Format ℕ → (ℕ → Verdict) → Format ℕ
+done a must rule = done a
+read (coded h old) k must rule = read (coded h rule) k
+read (reserved n) k must rule = read (reserved n) k
+read (guardType old) k must rule = read (guardType rule) k
+
+-- ---- rules
+
+infixl 50 _unless_ _or_
+abbrev pub _unless_ : Breach → Bool → Verdict
+b unless true = fine
+b unless false = against b
+
+-- the first of two that speaks against
+abbrev pub _or_ : Verdict → Verdict → Verdict
+fine or v = v
+against b or v = against b
+
+abbrev pub atLeast : ℕ → ℕ → Verdict
+atLeast n x = broken unless leb n x
+
+abbrev pub atMost : ℕ → ℕ → Verdict
+atMost n x = broken unless leb x n
+
+abbrev pub between : ℤ → ℤ → ℤ → Verdict
+between a b z = broken unless (leZ a z && leZ z b)
+
+-- of a guard band type: not 0 where its not-used-for-prediction flag is 0
+abbrev pub usable : ℕ → ℕ → Verdict
+usable notUsed m = broken unless (eqb notUsed 1 || leb 1 m)
+
+-- ---- parts
+
+infixr 10 if_then_else_
+-- the one format where the test holds, and else the other
+abbrev pub if_then_else_ : {A : Type 0} → Bool → Format A → Format A → Format A
+if true then f else g = f
+if false then f else g = g

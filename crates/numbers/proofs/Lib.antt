@@ -1,0 +1,6 @@
+pub mod Exact
+pub mod Patterns
+pub mod DegreeLaws
+pub mod DepthLaws
+pub mod Determined
+pub mod Examples
