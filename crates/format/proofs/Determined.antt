@@ -1,0 +1,14 @@
+-- The public contracts determine their results.
+-- Assumes nothing.
+use mathlib.Core.Path.{sym, _∙_}
+use Rattle.bits.proofs.Determined.{Determines, byte-told}
+use Rattle.format.proofs.guard.guard_type.Kinds as guard-type-kinds
+use Rattle.format.proofs.guard.guard_type.Reads as guard-type-reads
+use Rattle.format.proofs.guard.handed_out.Kinds as handed-out-kinds
+use Rattle.format.proofs.guard.handed_out.Reads as handed-out-reads
+
+pub guard-type-determined : Determines 1 guard-type-kinds.ps guard-type-kinds.r guard-type-reads.Post
+guard-type-determined κs a x y s t p q = byte-told x y (p ∙ sym q)
+
+pub handed-out-determined : Determines 0 handed-out-kinds.ps handed-out-kinds.r handed-out-reads.Post
+handed-out-determined κs a x y s t p q = p ∙ sym q
