@@ -5,7 +5,6 @@ use Prim.Native.Nat.{ℕ, _-_}
 use mathlib.Core.Path.{_≡_, refl, sym, ap, _∙_}
 use mathlib.Core.List.{List, [], _∷_}
 use lib.ListN.{getD}
-use native.Mathlib.Omega.{arith}
 use contract.Lifetimes.{Lfts}
 use denote.Triple.Clauses.{AtExit}
 use borrow.Fn.Kinds.{PK, RK, Dens, resT, endedOf}
@@ -13,7 +12,6 @@ use borrow.Fn.Kinds as kinds
 use Rattle.bits.specs.Out.{Out, taken, refused}
 use Rattle.bits.specs.Refusals.{numberOf}
 use Rattle.bits.specs.Answers.{answer, byteAnswer, wordAnswer}
-use Rattle.bits.specs.declared.cursor.Cursor.{Cursor}
 use Rattle.bits.specs.declared.refusal.Refusal.{Refusal}
 use Rattle.bits.specs.declared.refusal.Refusal.the-variants.{Kind, Size, Short, Zeros, Rule, Regions, Tail, Slot, Table, Rows}
 use Rattle.bits.specs.declared.read.Read.{Read}
@@ -63,40 +61,43 @@ Determines n ps r Post =
     → Post κs a y t
     → x ≡ y
 
--- ---- each answer's meaning tells its cases apart
+-- ---- each answer's meaning tells its cases apart: there is a way back
 
-pub cursor-told : (a b : Cursor) → a .at ≡ b .at → a ≡ b
-cursor-told a b e i = record { at = e i }
-
-pub told-apart : {A X : Type 0} {a : A} {q : ℕ} {r : Refusal} → taken a q ≡ refused r → X
-told-apart e = let z : _≡_ {A = ℕ} 0 1 = cc in absurd (omega arith)
+pub told-by : {R X : Type 0} (meaning : R → X) (back : X → R) → ((r : R) → back (meaning r) ≡ r) → (r t : R) → meaning r ≡ meaning t → r ≡ t
+told-by meaning back same r t e = sym (same r) ∙ ap back e ∙ same t
 
 pub read-told : (r t : Read) → answer r ≡ answer t → r ≡ t
-read-told (Value v c) (Value w d) e =
-    let k : v ≡ w = cc in
-    let l = cursor-told c d (cc) in
-    cc
-read-told (Value v c) (Refused r) e = told-apart e
-read-told (Refused r) (Value w d) e = told-apart (sym e)
-read-told (Refused r) (Refused t) e = let k : r ≡ t = cc in ap Refused k
+read-told = told-by answer back same
+  where
+    back : Out ℕ → Read
+    back (taken v q) = Value v (record { at = q })
+    back (refused r) = Refused r
+
+    same : (r : Read) → back (answer r) ≡ r
+    same (Value v c) = refl
+    same (Refused r) = refl
 
 pub byte-told : (r t : ByteRead) → byteAnswer r ≡ byteAnswer t → r ≡ t
-byte-told (byte.Value v c) (byte.Value w d) e =
-    let k : v ≡ w = cc in
-    let l = cursor-told c d (cc) in
-    cc
-byte-told (byte.Value v c) (byte.Refused r) e = told-apart e
-byte-told (byte.Refused r) (byte.Value w d) e = told-apart (sym e)
-byte-told (byte.Refused r) (byte.Refused t) e = let k : r ≡ t = cc in ap byte.Refused k
+byte-told = told-by byteAnswer back same
+  where
+    back : Out ℕ → ByteRead
+    back (taken v q) = byte.Value v (record { at = q })
+    back (refused r) = byte.Refused r
+
+    same : (r : ByteRead) → back (byteAnswer r) ≡ r
+    same (byte.Value v c) = refl
+    same (byte.Refused r) = refl
 
 pub word-told : (r t : WordRead) → wordAnswer r ≡ wordAnswer t → r ≡ t
-word-told (word.Value v c) (word.Value w d) e =
-    let k : v ≡ w = cc in
-    let l = cursor-told c d (cc) in
-    cc
-word-told (word.Value v c) (word.Refused r) e = told-apart e
-word-told (word.Refused r) (word.Value w d) e = told-apart (sym e)
-word-told (word.Refused r) (word.Refused t) e = let k : r ≡ t = cc in ap word.Refused k
+word-told = told-by wordAnswer back same
+  where
+    back : Out ℕ → WordRead
+    back (taken v q) = word.Value v (record { at = q })
+    back (refused r) = word.Refused r
+
+    same : (r : WordRead) → back (wordAnswer r) ≡ r
+    same (word.Value v c) = refl
+    same (word.Refused r) = refl
 
 -- and the numbers tell the refusals apart: this list has each at its number
 refusals : List Refusal
@@ -116,7 +117,7 @@ numbered Table = refl
 numbered Rows = refl
 
 pub refusal-told : (r t : Refusal) → numberOf r ≡ numberOf t → r ≡ t
-refusal-told r t e = sym (numbered r) ∙ ap (λ n. getD refusals (n - 1) Kind) e ∙ numbered t
+refusal-told = told-by numberOf (λ n. getD refusals (n - 1) Kind) numbered
 
 -- ---- the public functions
 

@@ -410,7 +410,7 @@ judged-seen n (at i) = go (leb n (i + 8)) refl
     go true k = inl (i, rw k)
     go false k = inr (rw k)
 
-tail-seen : (w : List Bool) → ((e : ℕ) × (tailOf w ≡ Extension e)) ⊎ (tailOf w ≡ Refused Tail)
+pub tail-seen : (w : List Bool) → ((e : ℕ) × (tailOf w ≡ Extension e)) ⊎ (tailOf w ≡ Refused Tail)
 unfolding tailOf
 tail-seen [] = inl (0, refl)
 tail-seen (b ∷ w) = judged-seen (length (b ∷ w)) (lastOne (b ∷ w))

@@ -143,3 +143,6 @@ module _ {A : Type 0} where
   varied-taken f w v a d x rest =
       let r = alike f w v a d (variation-alike f w v x) in
       run-complete f v (r .0) rest ∙ ap (taken a) (r .1)
+
+  pub varied-length : (f : Format A) (w v : List Bool) (a : A) → Coded f w a → Variation f w v → length v ≡ length w
+  varied-length f w v a d x = alike f w v a d (variation-alike f w v x) .1

@@ -1,8 +1,10 @@
 -- The public contracts determine their results.
 -- Assumes nothing.
-use mathlib.Core.Path.{_≡_, sym, ap, _∙_}
-use Rattle.bits.proofs.Determined.{Determines, cursor-told, told-apart}
+use mathlib.Core.Path.{_≡_, refl, sym, _∙_}
+use Rattle.bits.proofs.Determined.{Determines, told-by}
 use Rattle.orientation.specs.Orientation.{answer}
+use Rattle.bits.specs.Out.{Out, taken, refused}
+use Rattle.orientation.specs.declared.Orientation.{Orientation}
 use Rattle.orientation.specs.declared.OrientationRead.{OrientationRead}
 use Rattle.orientation.specs.declared.OrientationRead.the-variants.{Taken, Refused}
 use Rattle.orientation.proofs.Orientation.zero.Kinds as zero-kinds
@@ -12,15 +14,16 @@ use Rattle.orientation.proofs.OrientationRead.refusal.Reads as refusal-
 use Rattle.orientation.proofs.read.Kinds as read-kinds
 use Rattle.orientation.proofs.read.Reads as read-reads
 
--- the answer's meaning tells its cases apart
 told : (r t : OrientationRead) → answer r ≡ answer t → r ≡ t
-told (Taken a c) (Taken b d) e =
-    let k : a ≡ b = cc in
-    let l = cursor-told c d (cc) in
-    cc
-told (Taken a c) (Refused r) e = told-apart e
-told (Refused r) (Taken b d) e = told-apart (sym e)
-told (Refused r) (Refused t) e = let k : r ≡ t = cc in ap Refused k
+told = told-by answer back same
+  where
+    back : Out Orientation → OrientationRead
+    back (taken a q) = Taken a (record { at = q })
+    back (refused r) = Refused r
+
+    same : (r : OrientationRead) → back (answer r) ≡ r
+    same (Taken a c) = refl
+    same (Refused r) = refl
 
 pub zero-determined : Determines 0 zero-kinds.ps zero-kinds.r zero-reads.Post
 zero-determined κs a x y s t p q = p ∙ sym q
