@@ -52,6 +52,18 @@ use Rattle.bits.proofs.read.ByteRead.refusal.Kinds as byte-refusal-kind
 use Rattle.bits.proofs.read.ByteRead.refusal.Reads as byte-refusal-reads
 use Rattle.bits.proofs.read.WordRead.refusal.Kinds as word-refusal-kinds
 use Rattle.bits.proofs.read.WordRead.refusal.Reads as word-refusal-reads
+use Rattle.bits.proofs.refusal.Refusal.kind.Kinds as kind-made-kinds
+use Rattle.bits.proofs.refusal.Refusal.kind.Reads as kind-made-reads
+use Rattle.bits.proofs.refusal.Refusal.size.Kinds as size-made-kinds
+use Rattle.bits.proofs.refusal.Refusal.size.Reads as size-made-reads
+use Rattle.bits.proofs.refusal.Refusal.slot.Kinds as slot-made-kinds
+use Rattle.bits.proofs.refusal.Refusal.slot.Reads as slot-made-reads
+use Rattle.bits.proofs.refusal.Refusal.table.Kinds as table-made-kinds
+use Rattle.bits.proofs.refusal.Refusal.table.Reads as table-made-reads
+use Rattle.bits.proofs.refusal.Refusal.rows.Kinds as rows-made-kinds
+use Rattle.bits.proofs.refusal.Refusal.rows.Reads as rows-made-reads
+use Rattle.bits.proofs.read.Onward.refusal.Kinds as onward-refusal-kinds
+use Rattle.bits.proofs.read.Onward.refusal.Reads as onward-refusal-reads
 
 -- the arguments a fix the result: x and y, each with whatever stands at exit, are the same
 abbrev pub Determines : (n : ℕ) (ps : List (PK n)) (r : RK n) → kinds.Out n ps r → Type 0
@@ -168,3 +180,21 @@ byte-refusal-determined κs a x y s t p q = p ∙ sym q
 
 pub word-refusal-determined : Determines 0 word-refusal-kinds.ps word-refusal-kinds.r word-refusal-reads.Post
 word-refusal-determined κs a x y s t p q = p ∙ sym q
+
+pub kind-made-determined : Determines 0 kind-made-kinds.ps kind-made-kinds.r kind-made-reads.Post
+kind-made-determined κs a x y s t p q = p ∙ sym q
+
+pub size-made-determined : Determines 0 size-made-kinds.ps size-made-kinds.r size-made-reads.Post
+size-made-determined κs a x y s t p q = p ∙ sym q
+
+pub slot-made-determined : Determines 0 slot-made-kinds.ps slot-made-kinds.r slot-made-reads.Post
+slot-made-determined κs a x y s t p q = p ∙ sym q
+
+pub table-made-determined : Determines 0 table-made-kinds.ps table-made-kinds.r table-made-reads.Post
+table-made-determined κs a x y s t p q = p ∙ sym q
+
+pub rows-made-determined : Determines 0 rows-made-kinds.ps rows-made-kinds.r rows-made-reads.Post
+rows-made-determined κs a x y s t p q = p ∙ sym q
+
+pub onward-refusal-determined : Determines 0 onward-refusal-kinds.ps onward-refusal-kinds.r onward-refusal-reads.Post
+onward-refusal-determined κs a x y s t p q = p ∙ sym q

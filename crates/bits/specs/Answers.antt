@@ -7,6 +7,10 @@ use Rattle.bits.specs.declared.read.ByteRead.{ByteRead}
 use Rattle.bits.specs.declared.read.ByteRead.the-variants as byte
 use Rattle.bits.specs.declared.read.WordRead.{WordRead}
 use Rattle.bits.specs.declared.read.WordRead.the-variants as word
+use Rattle.bits.specs.declared.read.Onward.{Onward}
+use Rattle.bits.specs.declared.read.Onward.the-variants as onward
+use Rattle.bits.specs.declared.refusal.Refusal.{Refusal}
+use Rattle.bits.specs.declared.refusal.Refusal.the-variants.{Short}
 
 abbrev pub answer : Read → Out ℕ
 answer (Value v c) = taken v (c .at)
@@ -19,3 +23,8 @@ byteAnswer (byte.Refused r) = refused r
 abbrev pub wordAnswer : WordRead → Out ℕ
 wordAnswer (word.Value v c) = taken v (c .at)
 wordAnswer (word.Refused r) = refused r
+
+-- why a reading does not go on; asked only where it does not
+abbrev pub onwardRefusal : Onward → Refusal
+onwardRefusal (onward.Next c) = Short
+onwardRefusal (onward.Refused r) = r

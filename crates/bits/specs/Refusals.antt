@@ -1,6 +1,5 @@
 -- The numbers that a caller gets, and what a rule says of an element.
 use Prim.Native.Nat.{ℕ}
-use mathlib.Core.Bool.{Bool, true, false}
 use Rattle.bits.specs.declared.refusal.Refusal.{Refusal}
 use Rattle.bits.specs.declared.refusal.Refusal.the-variants.{Kind, Size, Short, Zeros, Rule, Regions, Tail, Slot, Table, Rows}
 
@@ -16,6 +15,22 @@ numberOf Tail = 7
 numberOf Slot = 8
 numberOf Table = 9
 numberOf Rows = 10
+
+-- the refusals of calls, as the layers above name them
+abbrev pub byKind : Refusal
+byKind = Kind
+
+abbrev pub bySize : Refusal
+bySize = Size
+
+abbrev pub bySlot : Refusal
+bySlot = Slot
+
+abbrev pub byTable : Refusal
+byTable = Table
+
+abbrev pub byRows : Refusal
+byRows = Rows
 
 -- how a rule can be broken: 5, or 6
 pub data Breach : Type 0 where

@@ -3,7 +3,7 @@ use crate::cursor::Cursor;
 use crate::refusal::Refusal;
 ghost use mathlib.Core.Path.{_≡_};
 ghost use Rattle.bits.specs.Out.{refusalIn};
-ghost use Rattle.bits.specs.Answers.{answer, byteAnswer, wordAnswer};
+ghost use Rattle.bits.specs.Answers.{answer, byteAnswer, wordAnswer, onwardRefusal};
 
 pub enum Read {
     Value(u32, Cursor),
@@ -59,6 +59,17 @@ impl WordRead {
         match self {
             WordRead::Refused(why) => why,
             WordRead::Value(_, _) => Refusal::Short,
+        }
+    }
+}
+
+impl Onward {
+    pub fn refusal(self) -> Refusal
+        ensures { λ r. ⌜ r ≡ onwardRefusal self ⌝ }
+    {
+        match self {
+            Onward::Refused(why) => why,
+            Onward::Next(_) => Refusal::Short,
         }
     }
 }

@@ -1,7 +1,7 @@
 // Why a payload, or a call, is refused. Refusals are made in this crate and handed up whole.
 use crate::cursor::Cursor;
 ghost use mathlib.Core.Path.{_≡_};
-ghost use Rattle.bits.specs.Refusals.{numberOf, broken, tooMany, refusalOf};
+ghost use Rattle.bits.specs.Refusals.{numberOf, byKind, bySize, bySlot, byTable, byRows, broken, tooMany, refusalOf};
 
 pub enum Refusal {
     // The kind is none that is read.
@@ -43,6 +43,36 @@ impl Refusal {
             Refusal::Table => 9,
             Refusal::Rows => 10,
         }
+    }
+
+    pub fn kind() -> Refusal
+        ensures { λ r. ⌜ r ≡ byKind ⌝ }
+    {
+        Refusal::Kind
+    }
+
+    pub fn size() -> Refusal
+        ensures { λ r. ⌜ r ≡ bySize ⌝ }
+    {
+        Refusal::Size
+    }
+
+    pub fn slot() -> Refusal
+        ensures { λ r. ⌜ r ≡ bySlot ⌝ }
+    {
+        Refusal::Slot
+    }
+
+    pub fn table() -> Refusal
+        ensures { λ r. ⌜ r ≡ byTable ⌝ }
+    {
+        Refusal::Table
+    }
+
+    pub fn rows() -> Refusal
+        ensures { λ r. ⌜ r ≡ byRows ⌝ }
+    {
+        Refusal::Rows
     }
 
     // The refusal of an element that breaks a rule; the element starts at the cursor.

@@ -24,7 +24,7 @@ use Rattle.format.specs.Coded.{Coded}
 use Rattle.format.specs.Stopped.{StoppedHere, Stopped}
 use Rattle.format.specs.Stopped as stopped
 use Rattle.format.specs.Varied.{Variation}
-use Rattle.format.specs.Whole.{Kind, Reading, taken, setAside, refused, given, ended, ending, closed, whole, Follows, Holds, BadTail}
+use Rattle.format.specs.Whole.{Form, Reading, taken, setAside, refused, given, ended, ending, closed, whole, Follows, Holds, BadTail}
 use Rattle.format.proofs.Run.{run-sound, run-complete, run-stopped}
 use Rattle.format.proofs.Alike.{varied-taken, varied-length}
 use Rattle.format.proofs.Payload as payload
@@ -91,25 +91,25 @@ module _ {A : Type 0} where
   same-refusal h = cc
 
   -- a message and what follows it
-  at-message : (k : Kind A) (message rest : List Bool) (a : A) → Coded (k .table) message a → whole k (message ++ rest) ≡ ended (k .aside) a (ending (k .tailed) rest)
+  at-message : (k : Form A) (message rest : List Bool) (a : A) → Coded (k .table) message a → whole k (message ++ rest) ≡ ended (k .aside) a (ending (k .tailed) rest)
   unfolding whole
   at-message k message rest a d =
       ap (closed k (message ++ rest)) (run-complete (k .table) message d rest)
       ∙ ap (λ t. ended (k .aside) a (ending (k .tailed) t)) (drop-at message rest (length message) refl)
 
-  pub whole-holds : (k : Kind A) (w : List Bool) (a : A) (e : ℕ) → Holds k w a e → whole k w ≡ given (k .aside a) a e
+  pub whole-holds : (k : Form A) (w : List Bool) (a : A) (e : ℕ) → Holds k w a e → whole k w ≡ given (k .aside a) a e
   whole-holds k w a e d =
       ap (whole k) (d .split)
       ∙ at-message k (d .message) (d .rest) a (d .coded)
       ∙ ap (ended (k .aside) a) (ending-iff (k .tailed) (d .rest) e .1 (d .follows))
 
   -- the three ways of a payload
-  pub data Seen (k : Kind A) (w : List Bool) : Type 0 where
+  pub data Seen (k : Form A) (w : List Bool) : Type 0 where
     holds : (a : A) (e : ℕ) → Holds k w a e → Seen k w
     stops : (r : Refusal) → Stopped (k .table) w r → Seen k w
     tail : BadTail k w → Seen k w
 
-  pub seen : (k : Kind A) (w : List Bool) → Seen k w
+  pub seen : (k : Form A) (w : List Bool) → Seen k w
   seen k w = go (run (k .table) w) refl
     where
       after : (a : A) (message rest : List Bool) → w ≡ message ++ rest → Coded (k .table) message a → (b : Bool) → k .tailed ≡ b → Seen k w
@@ -124,11 +124,11 @@ module _ {A : Type 0} where
       go (out.taken a n) h = let b = run-sound (k .table) w h in after a (b .own) (b .rest) (b .split) (b .coded) (k .tailed) refl
       go (out.refused r) h = stops r (run-stopped (k .table) w r .0 h)
 
-  whole-stops : (k : Kind A) (w : List Bool) (r : Refusal) → Stopped (k .table) w r → whole k w ≡ refused r
+  whole-stops : (k : Form A) (w : List Bool) (r : Refusal) → Stopped (k .table) w r → whole k w ≡ refused r
   unfolding whole
   whole-stops k w r d = ap (closed k w) (run-stopped (k .table) w r .1 d)
 
-  whole-tail : (k : Kind A) (w : List Bool) → BadTail k w → whole k w ≡ refused Tail
+  whole-tail : (k : Form A) (w : List Bool) → BadTail k w → whole k w ≡ refused Tail
   whole-tail k w d =
       ap (whole k) (d .split)
       ∙ at-message k (d .message) (d .rest) (d .value) (d .coded)
@@ -145,11 +145,11 @@ module _ {A : Type 0} where
   given-aside true a x e y h = (cc, cc, refl)
   given-aside false a x e y h = let z : _≡_ {A = ℕ} 0 1 = cc in absurd (omega arith)
 
-  moved : (k : Kind A) (w : List Bool) (a x : A) (e y : ℕ) → x ≡ a → y ≡ e → Holds k w x y → Holds k w a e
+  moved : (k : Form A) (w : List Bool) (a x : A) (e y : ℕ) → x ≡ a → y ≡ e → Holds k w x y → Holds k w a e
   moved k w a x e y p q d = subst (λ b. Holds k w b e) p (subst (λ n. Holds k w x n) q d)
 
   -- Taken with a and an extension of e bits exactly where the bits are that message and a permitted end, and it is not one to set aside.
-  pub taken-iff : (k : Kind A) (w : List Bool) (a : A) (e : ℕ) → (whole k w ≡ taken a e) ↔ (Holds k w a e × (k .aside a ≡ false))
+  pub taken-iff : (k : Form A) (w : List Bool) (a : A) (e : ℕ) → (whole k w ≡ taken a e) ↔ (Holds k w a e × (k .aside a ≡ false))
   taken-iff k w a e = (λ h. sound h (seen k w), λ d. whole-holds k w a e (d .0) ∙ ap (λ b. given b a e) (d .1))
     where
       sound : whole k w ≡ taken a e → Seen k w → Holds k w a e × (k .aside a ≡ false)
@@ -160,7 +160,7 @@ module _ {A : Type 0} where
       sound h (tail d) = taken-refused (sym (whole-tail k w d) ∙ h)
 
   -- Set aside exactly where the same holds and it is one to set aside.
-  pub aside-iff : (k : Kind A) (w : List Bool) (a : A) (e : ℕ) → (whole k w ≡ setAside a e) ↔ (Holds k w a e × (k .aside a ≡ true))
+  pub aside-iff : (k : Form A) (w : List Bool) (a : A) (e : ℕ) → (whole k w ≡ setAside a e) ↔ (Holds k w a e × (k .aside a ≡ true))
   aside-iff k w a e = (λ h. sound h (seen k w), λ d. whole-holds k w a e (d .0) ∙ ap (λ b. given b a e) (d .1))
     where
       sound : whole k w ≡ setAside a e → Seen k w → Holds k w a e × (k .aside a ≡ true)
@@ -171,7 +171,7 @@ module _ {A : Type 0} where
       sound h (tail d) = aside-refused (sym (whole-tail k w d) ∙ h)
 
   -- 3, 4, 5 and 6 exactly where the elements stop it ..
-  pub stopped-iff : (k : Kind A) (w : List Bool) (r : Refusal) → OfElement r → (whole k w ≡ refused r) ↔ Stopped (k .table) w r
+  pub stopped-iff : (k : Form A) (w : List Bool) (r : Refusal) → OfElement r → (whole k w ≡ refused r) ↔ Stopped (k .table) w r
   stopped-iff k w r o = (λ h. sound h (seen k w), whole-stops k w r)
     where
       sound : whole k w ≡ refused r → Seen k w → Stopped (k .table) w r
@@ -180,7 +180,7 @@ module _ {A : Type 0} where
       sound h (tail d) = not-tail o (same-refusal (sym h ∙ whole-tail k w d))
 
   -- .. and 7 exactly where a message stands, and what follows it is no permitted end.
-  pub tail-iff : (k : Kind A) (w : List Bool) → (whole k w ≡ refused Tail) ↔ BadTail k w
+  pub tail-iff : (k : Form A) (w : List Bool) → (whole k w ≡ refused Tail) ↔ BadTail k w
   tail-iff k w = (λ h. sound h (seen k w), whole-tail k w)
     where
       sound : whole k w ≡ refused Tail → Seen k w → BadTail k w
@@ -190,7 +190,7 @@ module _ {A : Type 0} where
 
   -- ---- demand 3: a variation of the message, with whatever permitted end, is answered the same but for the extension's length
 
-  pub varied-whole : (k : Kind A) (w : List Bool) (a : A) (e : ℕ) (d : Holds k w a e) (message rest : List Bool) (e′ : ℕ)
+  pub varied-whole : (k : Form A) (w : List Bool) (a : A) (e : ℕ) (d : Holds k w a e) (message rest : List Bool) (e′ : ℕ)
       → Variation (k .table) (d .message) message → Follows (k .tailed) rest e′ → whole k (message ++ rest) ≡ given (k .aside a) a e′
   unfolding whole
   varied-whole k w a e d message rest e′ v f =
@@ -200,11 +200,11 @@ module _ {A : Type 0} where
 
   -- ---- at the payload's positions, for the code
 
-  abbrev pub closedAt : Kind A → List ℕ → out.Out A → Reading A
+  abbrev pub closedAt : Form A → List ℕ → out.Out A → Reading A
   closedAt k s (out.taken a p) = ended (k .aside) a (endingAt (k .tailed) s p)
   closedAt k s (out.refused r) = refused r
 
-  pub whole-at : (k : Kind A) (s : List ℕ) → whole k (bitsOf s) ≡ closedAt k s (runAt (k .table) s 0)
+  pub whole-at : (k : Form A) (s : List ℕ) → whole k (bitsOf s) ≡ closedAt k s (runAt (k .table) s 0)
   unfolding whole
   whole-at k s = go (run (k .table) (bitsOf s)) ∙ ap (closedAt k s) (sym (payload.whole (k .table) s))
     where

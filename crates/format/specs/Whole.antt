@@ -12,8 +12,8 @@ use Rattle.bits.specs.declared.refusal.Refusal.{Refusal}
 use Rattle.format.specs.Format.{Format, run}
 use Rattle.format.specs.Coded.{Coded}
 
--- a kind: its table, whether its payloads can have a tail, and which of its messages are to be set aside
-pub record Kind (A : Type 0) : Type 0 where
+-- how payloads of a kind are formed: its table, whether its payloads can have a tail, and which of its messages are to be set aside
+pub record Form (A : Type 0) : Type 0 where
   pub table : Format A
   pub tailed : Bool
   pub aside : A → Bool
@@ -41,11 +41,11 @@ module _ {A : Type 0} where
   ended aside a (Refused r) = refused r
 
   -- after the elements
-  abbrev pub closed : Kind A → List Bool → out.Out A → Reading A
+  abbrev pub closed : Form A → List Bool → out.Out A → Reading A
   closed k w (out.taken a n) = ended (k .aside) a (ending (k .tailed) (drop n w))
   closed k w (out.refused r) = refused r
 
-  unfoldable pub whole : Kind A → List Bool → Reading A
+  unfoldable pub whole : Form A → List Bool → Reading A
   whole k w = closed k w (run (k .table) w)
 
 -- The same, declared: what may follow a message, with an extension of e bits ..
@@ -54,7 +54,7 @@ Follows true rest e = Ended rest e
 Follows false rest e = e ≡ 0
 
 -- .. the bits w are the message a and what may follow it ..
-pub record Holds {A : Type 0} (k : Kind A) (w : List Bool) (a : A) (e : ℕ) : Type 0 where
+pub record Holds {A : Type 0} (k : Form A) (w : List Bool) (a : A) (e : ℕ) : Type 0 where
   pub message : List Bool
   pub rest : List Bool
   pub split : w ≡ message ++ rest
@@ -62,7 +62,7 @@ pub record Holds {A : Type 0} (k : Kind A) (w : List Bool) (a : A) (e : ℕ) : T
   pub follows : Follows (k .tailed) rest e
 
 -- .. or a message and what may not follow it.
-pub record BadTail {A : Type 0} (k : Kind A) (w : List Bool) : Type 0 where
+pub record BadTail {A : Type 0} (k : Form A) (w : List Bool) : Type 0 where
   pub value : A
   pub message : List Bool
   pub rest : List Bool
