@@ -1,0 +1,3 @@
+pub mod FramePacking
+pub mod Answers
+pub mod SetAside
