@@ -1,0 +1,74 @@
+-- Laws for readers over any format: elements with a rule, formats of one element, and answers of a value beside where the reading goes on.
+-- Assumes nothing.
+use Prim.Native.Nat.{ℕ, _≤_, _<_}
+use mathlib.Core.Path.{_≡_, refl, sym, ap, _∙_}
+use mathlib.Core.Bool.{Bool, true, false}
+use mathlib.Core.List.{List}
+use native.Mathlib.Omega.{arith}
+use lib.Dec.{leb}
+use borrow.Author.Tests.{le-leb, lt-leb, leb-true}
+use Rattle.bits.specs.Refusals.{broken, Verdict, fine, against}
+use Rattle.bits.specs.Out.{Out, taken, refused, after, refusalIn}
+use Rattle.bits.specs.Coding.{Shape, shapeAt}
+use Rattle.bits.specs.declared.refusal.Refusal.the-variants.{Rule}
+use Rattle.bits.specs.declared.read.Onward.{Onward}
+use Rattle.bits.specs.declared.read.Onward.the-variants.{Next, Refused}
+use Rattle.bits.proofs.Reading.{not-taken}
+use Rattle.format.specs.Format.{Element, coded, shape, meaning, verdict, ruled, elementAt, done, read, runAt}
+use Rattle.format.specs.Syntax.{any, _unless_, atMost}
+use Rattle.format.proofs.Steps.{judged-at, step, step-code, step-done}
+use Rattle.depth.specs.Model.{stoppedBy}
+
+-- ---- an element's rule
+
+-- the rule of an element that was taken finds its meaning fine
+pub taken-fine : (e : Element) (s : List ℕ) (p : ℕ) {m q : ℕ} → elementAt e s p ≡ taken m q → verdict e m ≡ fine
+taken-fine e s p {m} {q} h = from-code (shapeAt (shape e) s p) (sym (judged-at e s p) ∙ h)
+  where
+    by-verdict : (v : Verdict) (n t : ℕ) → verdict e n ≡ v → ruled v n t ≡ taken m q → verdict e m ≡ fine
+    by-verdict fine n t k r = let same : n ≡ m = cc in ap (verdict e) (sym same) ∙ k
+    by-verdict (against b) n t k r = not-taken r
+
+    from-code : (o : Out ℕ) → after o (λ c t. ruled (verdict e (meaning e c)) (meaning e c) t) ≡ taken m q → verdict e m ≡ fine
+    from-code (taken c t) r = by-verdict (verdict e (meaning e c)) (meaning e c) t refl r
+    from-code (refused x) r = not-taken r
+
+-- at most n
+pub most-kept : (n v q : ℕ) → v ≤ n → ruled (atMost n v) v q ≡ taken v q
+most-kept n v q h = rw (le-leb v n h)
+
+pub most-broken : (n v q : ℕ) → n < v → ruled (atMost n v) v q ≡ refused Rule
+most-broken n v q h = rw (lt-leb v n h)
+
+pub at-most-fine : (n x : ℕ) → atMost n x ≡ fine → x ≤ n
+at-most-fine n x = go (leb x n) refl
+  where
+    go : (b : Bool) → leb x n ≡ b → (broken unless b) ≡ fine → x ≤ n
+    go true l e = leb-true x n l
+    go false l e = let z : _≡_ {A = ℕ} 0 1 = cc in absurd (omega arith)
+
+pub at-most-kept : (h : Shape) (n : ℕ) (s : List ℕ) (p : ℕ) {v q : ℕ} → elementAt (coded h (atMost n)) s p ≡ taken v q → v ≤ n
+at-most-kept h n s p {v} e = at-most-fine n v (taken-fine (coded h (atMost n)) s p e)
+
+-- ---- a format that is one element comes to what the element comes to
+
+done-after : (s : List ℕ) (o : Out ℕ) → after o (λ m q. runAt (done m) s q) ≡ o
+done-after s (taken m q) = step-done m s q
+done-after s (refused r) = refl
+
+pub one-element : (e : Element) (s : List ℕ) (p : ℕ) → runAt (read e done) s p ≡ elementAt e s p
+one-element e s p = step e done s p ∙ done-after s (elementAt e s p)
+
+-- one with no rule
+pub one-code : (h : Shape) (s : List ℕ) (p : ℕ) → runAt (read (coded h any) done) s p ≡ shapeAt h s p
+one-code h s p = step-code (coded h any) done s p ∙ done-after s (shapeAt h s p)
+
+-- ---- an answer of a value beside where the reading goes on
+
+abbrev pub beside : {A : Type 0} → Onward → A → Out A
+beside (Next c) a = taken a (c .at)
+beside (Refused r) a = refused r
+
+pub stopped-beside : {A : Type 0} (w : Onward) (a : A) → stoppedBy w ≡ refusalIn (beside w a)
+stopped-beside (Next c) a = refl
+stopped-beside (Refused r) a = refl

@@ -1,0 +1,49 @@
+-- `depth::read_ref_view` meets its contract: the view is there where one of the two flags is 1.
+-- Assumes nothing.
+use Prim.Native.Nat.{ℕ}
+use mathlib.Core.List.{List}
+use mathlib.Core.Path.{_≡_, refl, sym, _∙_}
+use mathlib.Core.Logic.{⊎-elim}
+use mathlib.Core.Bool.{Bool, true, false, _||_}
+use lib.Dec.{eqb}
+use borrow.Author.Needs.{needs}
+use borrow.Author.Tests.{eq-eqb, ne-eqb}
+use Rattle.bits.specs.Coding.{golomb}
+use Rattle.format.specs.Format.{done, runAt}
+use Rattle.format.specs.Syntax.{ue, if_then_else_}
+use Rattle.format.proofs.Steps.{step-done, step-yes, step-no}
+use Rattle.depth.specs.Depth.{refView}
+use Rattle.depth.proofs.Laws.{one-code}
+use Rattle.depth.proofs.read_ref_view.Statement.{statement}
+use Rattle.depth.proofs.read_ref_view.Tie as tie
+
+opened : (m x : ℕ) (s : List ℕ) (p : ℕ) → runAt (refView m x) s p ≡ runAt (if (eqb m 1 || eqb x 1) then ue else (done 0)) s p
+unfolding refView
+opened m x s p = refl
+
+neither : (m x : ℕ) → (m ≡ 1 → ⊥) → (x ≡ 1 → ⊥) → (eqb m 1 || eqb x 1) ≡ false
+neither m x h l = rw (ne-eqb m 1 h, ne-eqb x 1 l)
+
+first : (m x : ℕ) → m ≡ 1 → (eqb m 1 || eqb x 1) ≡ true
+first m x h = rw (eq-eqb m 1 h)
+
+second : (m x : ℕ) → x ≡ 1 → (eqb m 1 || eqb x 1) ≡ true
+second m x h = rw (eq-eqb x 1 h) (either-way (eqb m 1))
+  where
+    either-way : (b : Bool) → (b || true) ≡ true
+    either-way true = refl
+    either-way false = refl
+
+returns : tie.Need-returns
+returns c = sym (opened _ _ _ _ ∙ step-no _ _ _ _ (neither _ _ (c .before .if1 .taken) (c .if2 .taken)) ∙ step-done _ _ _)
+
+wanted : (c : tie.After-ue) → let a = c .before .before .before .args in (eqb (a .d-min-flag) 1 || eqb (a .d-max-flag) 1) ≡ true
+wanted c =
+    let a = c .before .before .before .args in
+    ⊎-elim (λ w. second (a .d-min-flag) (a .d-max-flag) (w .1 .left)) (λ w. first (a .d-min-flag) (a .d-max-flag) (w .left)) (c .before .if1 .came)
+
+returns-2 : tie.Need-returns-2
+returns-2 c = c .ue .ensures ∙ sym (opened _ _ _ _ ∙ step-yes _ _ _ _ (wanted c) ∙ one-code golomb _ _)
+
+pub read-ref-view-spec : {M : Type 1} → statement M
+read-ref-view-spec = tie.close (tie.spec returns (λ c κs. search needs) returns-2)

@@ -1,0 +1,3 @@
+pub mod Element
+pub mod Model
+pub mod Depth

@@ -1,0 +1,62 @@
+-- The list of a depth message: H.274 8.22.1 from depth_nonlinear_representation_num_minus1 on.
+use Prim.Native.Nat.{ℕ, _+_, _-_}
+use mathlib.Core.List.{List, _++_}
+use lib.ListN.{length, replicate}
+use lib.Dec.{eqb}
+use Rattle.bits.specs.Out.{Out, taken, refused}
+use Rattle.bits.specs.declared.refusal.Refusal.{Refusal}
+use Rattle.bits.specs.declared.refusal.Refusal.the-variants.{Short}
+use Rattle.bits.specs.declared.read.Onward.{Onward}
+use Rattle.bits.specs.declared.read.Onward.the-variants.{Next, Refused}
+use Rattle.format.specs.Format.{Format, done, _>>=_, times}
+use Rattle.format.specs.Syntax.{ue, _must_, atMost, if_then_else_}
+use Rattle.depth.specs.declared.model.Model.{Model}
+use Rattle.depth.specs.declared.model.ModelRead.{ModelRead}
+use Rattle.depth.specs.declared.model.NumbersRead.{NumbersRead}
+
+abbrev pub number : Format ℕ
+number = ue must atMost 65535
+
+-- "every list entry past its count" is 0
+abbrev pub padded : List ℕ → List ℕ
+padded xs = xs ++ replicate (63 - length xs) 0
+
+abbrev pub numbersTable : ℕ → Format (List ℕ)
+numbersTable count = do
+  xs ← times count number
+  done (padded xs)
+
+unfoldable pub numbers : ℕ → Format (List ℕ)
+numbers count = numbersTable count
+
+abbrev pub noNumbers : List ℕ
+noNumbers = replicate 63 0
+
+abbrev pub noModel : Model
+noModel = record { count = 0; numbers = noNumbers }
+
+abbrev pub modelTable : ℕ → Format Model
+modelTable «representation_type» =
+    if eqb «representation_type» 3
+    then (do
+      «num_minus1» ← ue must atMost 62
+      xs ← numbers («num_minus1» + 1)
+      done (record { count = «num_minus1» + 1; numbers = xs }))
+    else (done noModel)
+
+unfoldable pub model : ℕ → Format Model
+model «representation_type» = modelTable «representation_type»
+
+-- what the code answers: zeros on a refusal
+abbrev pub numbersRead : Out (List ℕ) → NumbersRead
+numbersRead (taken xs q) = record { numbers = xs; onward = Next (record { at = q }) }
+numbersRead (refused r) = record { numbers = noNumbers; onward = Refused r }
+
+abbrev pub modelRead : Out Model → ModelRead
+modelRead (taken a q) = record { model = a; onward = Next (record { at = q }) }
+modelRead (refused r) = record { model = noModel; onward = Refused r }
+
+-- why a reading does not go on; asked only where it does not
+abbrev pub stoppedBy : Onward → Refusal
+stoppedBy (Next c) = Short
+stoppedBy (Refused r) = r

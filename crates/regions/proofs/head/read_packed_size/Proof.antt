@@ -1,0 +1,43 @@
+-- `regions::head::read_packed_size` meets its contract: the code that was read, and what the rule says of it.
+-- Assumes nothing.
+use mathlib.Core.Path.{_≡_, sym, ap, _∙_}
+use borrow.Author.Needs.{needs}
+use Rattle.bits.specs.Coding.{bits}
+use Rattle.bits.specs.Answers.{wordAnswer}
+use Rattle.format.specs.Format.{coded, ruled, elementAt}
+use Rattle.format.specs.Syntax.{atLeast}
+use Rattle.format.proofs.Steps.{element-value, element-refused}
+use Rattle.regions.proofs.Judged.{no-size, some-size}
+use Rattle.regions.proofs.head.read_packed_size.Statement.{statement}
+use Rattle.regions.proofs.head.read_packed_size.Tie as tie
+
+-- where a code was read
+value : (c : tie.After-known-told) → let b = c .before .before .before in let a = b .before .before .args in let v = c .before .r .given .0 in
+    elementAt (coded (bits 16) (atLeast 1)) (a .s .now) (a .c .at) ≡ ruled (atLeast 1 (v .0)) (v .0) (v .1 .0 .at)
+value c =
+    let b = c .before .before .before in
+    let a = b .before .before .args in
+    element-value (coded (bits 16) (atLeast 1)) (a .s .now) (a .c .at) (b .word .ensures) (ap wordAnswer (c .before .r .given .1))
+
+returns : tie.Need-returns
+returns c =
+    let b = c .before .before in
+    let a = b .before .before .args in
+    rw (c .enum-told .given .1)
+    (sym (element-refused (coded (bits 16) (atLeast 1)) (a .s .now) (a .c .at) (b .word .ensures) (ap wordAnswer (c .enum-told .given .1))))
+
+returns-2 : tie.Need-returns-2
+returns-2 c = rw (c .rule .ensures) (sym (value (c .before .before) ∙ no-size _ _ (c .before .if1 .taken)))
+
+returns-3 : tie.Need-returns-3
+returns-3 c = sym (value (c .before) ∙ some-size _ _ (c .if1 .left))
+
+pub read-packed-size-spec : {M : Type 1} → statement M
+read-packed-size-spec =
+    tie.close
+    (tie.spec
+    (λ c κs. search needs) (λ c. c .match .keys1) (λ c. c .match .keys2)
+    returns
+    (λ c κs. tt)
+    returns-2
+    returns-3)

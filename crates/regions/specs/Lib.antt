@@ -1,0 +1,6 @@
+pub mod Projected
+pub mod Packed
+pub mod Bands
+pub mod Region
+pub mod Head
+pub mod Packing

@@ -1,0 +1,2 @@
+pub mod Registered
+pub mod Unregistered

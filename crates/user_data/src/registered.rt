@@ -1,0 +1,75 @@
+// Kind 4, user data registered by Rec. ITU-T T.35: the record of its head, and its reader.
+use bits::cursor::Cursor;
+use bits::element::byte;
+use bits::read::ByteRead;
+use bits::refusal::Refusal;
+ghost use mathlib.Core.Path.{_≡_};
+ghost use Rattle.bits.specs.Bits.{Payload};
+ghost use Rattle.bits.specs.Out.{refusalIn};
+ghost use Rattle.format.specs.Format.{runAt};
+ghost use Rattle.user_data.specs.Registered.{zeros, registered, answer};
+
+pub struct Registered {
+    pub country_code: u8,
+    // Coded only after the country code 255.
+    pub extension_byte: u8,
+}
+
+impl Registered {
+    // The record of zeros.
+    pub fn zero() -> Registered
+        ensures { λ r. ⌜ r ≡ zeros ⌝ }
+    {
+        Registered {
+            country_code: 0,
+            extension_byte: 0,
+        }
+    }
+}
+
+pub enum RegisteredRead {
+    Taken(Registered, Cursor),
+    Refused(Refusal),
+}
+
+impl RegisteredRead {
+    // Why there is no record; asked only where there is none.
+    pub fn refusal(self) -> Refusal
+        ensures { λ r. ⌜ r ≡ refusalIn (answer self) ⌝ }
+    {
+        match self {
+            RegisteredRead::Refused(why) => why,
+            RegisteredRead::Taken(_, _) => Refusal::Short,
+        }
+    }
+}
+
+pub fn read(s: &[u8], c: Cursor) -> RegisteredRead
+    requires { ⌜ Payload (now s) ⌝ }
+    ensures { λ r. ⌜ answer r ≡ runAt registered (now (s .entry)) (c .at) ⌝ }
+{
+    let r1 = byte(s, c, 8);
+    let ByteRead::Value(country_code, c1) = r1 else {
+        return RegisteredRead::Refused(r1.refusal());
+    };
+    if country_code != 255 {
+        return RegisteredRead::Taken(
+            Registered {
+                country_code,
+                extension_byte: 0,
+            },
+            c1,
+        );
+    }
+    let r2 = byte(s, c1, 8);
+    let ByteRead::Value(extension_byte, c2) = r2 else {
+        return RegisteredRead::Refused(r2.refusal());
+    };
+    RegisteredRead::Taken(
+        Registered {
+            country_code,
+            extension_byte,
+        },
+        c2,
+    )
+}
