@@ -1,0 +1,53 @@
+-- The order of the numbers: 1, then 2, then what the payload comes to.
+-- Assumes nothing.
+use Prim.Native.Nat.{ℕ, _≤_, _<_}
+use mathlib.Core.Path.{_≡_, refl, sym, ap, _∙_}
+use mathlib.Core.Logic.{_⊎_, inl, inr}
+use mathlib.Core.Bool.{Bool, true, false, _&&_}
+use mathlib.Core.List.{List}
+use borrow.Author.Tests.{le-leb, lt-leb}
+use lib.ListN.{length, take}
+use lib.Dec.{leb}
+use Rattle.bits.specs.Refusals.{bySize}
+use Rattle.bits.specs.declared.refusal.Refusal.{Refusal}
+use Rattle.format.specs.Whole.{refused}
+use Rattle.reader.specs.Listed.{named}
+use Rattle.reader.specs.Answer.{answerFor, refusedAs, unknown}
+use Rattle.reader.specs.Reader.{readingOf, sized, cut, answered, answerTo}
+use Rattle.reader.specs.declared.kind.Kind.{Kind}
+use Rattle.reader.specs.declared.kind.Kind.the-variants as kinds
+use Rattle.reader.specs.declared.kind.Named.{Named}
+use Rattle.reader.specs.declared.kind.Named.the-variants.{Listed, Unlisted}
+
+-- a refusal of kind k comes with the zeros of k
+pub refused-plain : (k : Kind) (r : Refusal) → answerFor k (refused r) ≡ refusedAs k r
+refused-plain kinds.FramePacking r = refl
+refused-plain kinds.Orientation r = refl
+refused-plain kinds.Equirectangular r = refl
+refused-plain kinds.Rotation r = refl
+refused-plain kinds.RegionWise r = refl
+refused-plain kinds.Alpha r = refl
+refused-plain kinds.Depth r = refl
+refused-plain kinds.Registered r = refl
+refused-plain kinds.Unregistered r = refl
+
+too-large : (size : ℕ) (l : Bool) → 8192 < size → (leb size 8192 && l) ≡ false
+too-large size l h = rw (lt-leb size 8192 h)
+
+module _ (n size : ℕ) (bytes : List ℕ) where
+  pub to-unlisted : named n ≡ Unlisted → answerTo n size bytes ≡ unknown
+  unfolding answerTo
+  to-unlisted e = ap (λ x. answered x size bytes) e
+
+  at-kind : (k : Kind) → named n ≡ Listed k → (b : Bool) → sized size bytes ≡ b → answerTo n size bytes ≡ answerFor k (cut k b size bytes)
+  unfolding answerTo
+  at-kind k e b h = ap (λ x. answered x size bytes) e ∙ ap (λ x. answerFor k (cut k x size bytes)) h
+
+  pub to-large : (k : Kind) → named n ≡ Listed k → 8192 < size → answerTo n size bytes ≡ refusedAs k bySize
+  to-large k e h = at-kind k e false (too-large size (leb size (length bytes)) h) ∙ refused-plain k bySize
+
+  pub to-long : (k : Kind) → named n ≡ Listed k → size ≤ 8192 → length bytes < size → answerTo n size bytes ≡ refusedAs k bySize
+  to-long k e h l = at-kind k e false (rw (le-leb size 8192 h, lt-leb size (length bytes) l)) ∙ refused-plain k bySize
+
+  pub to-payload : (k : Kind) → named n ≡ Listed k → size ≤ 8192 → size ≤ length bytes → answerTo n size bytes ≡ answerFor k (readingOf k (take size bytes))
+  to-payload k e h l = at-kind k e true (rw (le-leb size 8192 h, le-leb size (length bytes) l))

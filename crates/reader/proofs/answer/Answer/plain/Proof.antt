@@ -1,0 +1,13 @@
+-- `reader::answer::Answer::plain` meets its contract.
+-- Assumes nothing.
+use Rattle.reader.proofs.answer.Answer.plain.Statement.{statement}
+use Rattle.reader.proofs.answer.Answer.plain.Tie as tie
+
+pub plain-spec : {M : Type 1} → statement M
+plain-spec =
+    tie.close
+    (tie.spec
+    (λ c κs. tt)
+    (λ c κs. tt)
+    (λ c κs. tt)
+    (λ c. simp (c .zero3 .ensures, c .before .zero2 .ensures, c .before .before .zero .ensures)))

@@ -1,0 +1,12 @@
+-- `reader::answer::Answer::refused` meets its contract.
+-- Assumes nothing.
+use Rattle.reader.proofs.answer.Answer.refused.Statement.{statement}
+use Rattle.reader.proofs.answer.Answer.refused.Tie as tie
+
+pub refused-spec : {M : Type 1} → statement M
+refused-spec =
+    tie.close
+    (tie.spec
+    (λ c κs. tt)
+    (λ c κs. tt)
+    (λ c. rw (c .plain .ensures, c .before .zero .ensures)))

@@ -1,0 +1,12 @@
+-- `reader::answer::Answer::unknown` meets its contract.
+-- Assumes nothing.
+use Rattle.reader.proofs.answer.Answer.unknown.Statement.{statement}
+use Rattle.reader.proofs.answer.Answer.unknown.Tie as tie
+
+pub unknown-spec : {M : Type 1} → statement M
+unknown-spec =
+    tie.close
+    (tie.spec
+    (λ c κs. tt)
+    (λ c κs. tt)
+    (λ c. rw (c .plain .ensures, c .before .kind .ensures)))

@@ -1,0 +1,35 @@
+-- The reader, for any kind, size and bytes: 1, then 2, then what the payload's bits come to.
+use Prim.Native.Nat.{ℕ}
+use mathlib.Core.Bool.{Bool, true, false, cond, _&&_}
+use mathlib.Core.List.{List}
+use lib.Dec.{leb}
+use lib.ListN.{length, take}
+use Rattle.bits.specs.Bits.{bitsOf}
+use Rattle.bits.specs.Refusals.{bySize}
+use Rattle.format.specs.Whole.{Reading, refused, whole}
+use Rattle.reader.specs.Listed.{Record, form, named}
+use Rattle.reader.specs.declared.kind.Kind.{Kind}
+use Rattle.reader.specs.declared.kind.Named.{Named}
+use Rattle.reader.specs.declared.kind.Named.the-variants.{Listed, Unlisted}
+use Rattle.reader.specs.Answer.{answerFor, unknown}
+use Rattle.reader.specs.declared.answer.Answer.{Answer}
+
+-- a payload of kind k
+unfoldable pub readingOf : (k : Kind) → List ℕ → Reading (Record k)
+readingOf k s = whole (form k) (bitsOf s)
+
+-- the stated size is within the limit and the lent bytes
+abbrev pub sized : ℕ → List ℕ → Bool
+sized size bytes = leb size 8192 && leb size (length bytes)
+
+-- the stated size cuts the lent bytes
+abbrev pub cut : (k : Kind) → Bool → ℕ → List ℕ → Reading (Record k)
+cut k true size bytes = readingOf k (take size bytes)
+cut k false size bytes = refused bySize
+
+abbrev pub answered : Named → ℕ → List ℕ → Answer
+answered Unlisted size bytes = unknown
+answered (Listed k) size bytes = answerFor k (cut k (sized size bytes) size bytes)
+
+unfoldable pub answerTo : ℕ → ℕ → List ℕ → Answer
+answerTo n size bytes = answered (named n) size bytes

@@ -1,0 +1,56 @@
+// The reader: any kind, any size, any bytes.
+use crate::answer::Answer;
+use crate::kind::Kind;
+use crate::kind::Named;
+use crate::message;
+use bits::refusal::Refusal;
+ghost use mathlib.Core.Path.{_≡_};
+ghost use Prim.Native.Nat.{_≤_};
+ghost use lib.ListN.{length, take};
+ghost use Rattle.bits.specs.Bits.{Payload};
+ghost use Rattle.reader.specs.Answer.{answerFor};
+ghost use Rattle.reader.specs.Reader.{readingOf, answerTo};
+
+// The payload s of a listed kind.
+pub fn of_kind(kind: Kind, s: &[u8]) -> Answer
+    requires { ⌜ Payload (now s) ⌝ }
+    ensures { λ r. ⌜ r ≡ answerFor kind (readingOf kind (now (s .entry))) ⌝ }
+{
+    match kind {
+        Kind::FramePacking => message::frame_packing(s),
+        Kind::Orientation => message::orientation(s),
+        Kind::Equirectangular => message::equirectangular(s),
+        Kind::Rotation => message::rotation(s),
+        Kind::RegionWise => message::region_wise(s),
+        Kind::Alpha => message::alpha(s),
+        Kind::Depth => message::depth(s),
+        Kind::Registered => message::registered(s),
+        Kind::Unregistered => message::unregistered(s),
+    }
+}
+
+// The first n of the lent bytes.
+fn front(bytes: &[u8], n: usize) -> &[u8]
+    requires { ⌜ n ≤ length (now bytes) ⌝ }
+    ensures { λ r. ⌜ now r ≡ take n (now (bytes .entry)) ⌝ }
+{
+    &bytes[0..n]
+}
+
+// The stated size cuts the lent bytes here, once: nothing below sees more.
+pub fn read(kind: u64, size: u64, bytes: &[u8]) -> Answer
+    ensures { λ r. ⌜ r ≡ answerTo kind size (now (bytes .entry)) ⌝ }
+{
+    let named = Named::by(kind);
+    let Named::Listed(k) = named else {
+        return Answer::unknown();
+    };
+    if 8192 < size {
+        return Answer::refused(k, Refusal::size());
+    }
+    let n = size as usize;
+    if bytes.len() < n {
+        return Answer::refused(k, Refusal::size());
+    }
+    of_kind(k, front(bytes, n))
+}
