@@ -26,8 +26,6 @@ use Rattle.depth.proofs.element.read_element_if.Kinds as read-element-i
 use Rattle.depth.proofs.element.read_element_if.Reads as read-element-if-reads
 use Rattle.depth.proofs.model.ModelRead.refused.Kinds as model-refused-kinds
 use Rattle.depth.proofs.model.ModelRead.refused.Reads as model-refused-reads
-use Rattle.depth.proofs.model.refusal_of.Kinds as refusal-of-kinds
-use Rattle.depth.proofs.model.refusal_of.Reads as refusal-of-reads
 use Rattle.depth.proofs.model.read_numbers.Kinds as read-numbers-kinds
 use Rattle.depth.proofs.model.read_numbers.Reads as read-numbers-reads
 use Rattle.depth.proofs.model.read_model.Kinds as read-model-kinds
@@ -105,9 +103,6 @@ read-element-if-determined κs a x y s t p q = element-told x y (p ∙ sym q)
 
 pub model-refused-determined : Determines 0 model-refused-kinds.ps model-refused-kinds.r model-refused-reads.Post
 model-refused-determined κs a x y s t p q = p ∙ sym q
-
-pub refusal-of-determined : Determines 0 refusal-of-kinds.ps refusal-of-kinds.r refusal-of-reads.Post
-refusal-of-determined κs a x y s t p q = p ∙ sym q
 
 pub read-numbers-determined : Determines 1 read-numbers-kinds.ps read-numbers-kinds.r read-numbers-reads.Post
 read-numbers-determined κs a x y s t p q = p ∙ sym q

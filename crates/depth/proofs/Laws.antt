@@ -17,7 +17,7 @@ use Rattle.bits.proofs.Reading.{not-taken}
 use Rattle.format.specs.Format.{Element, coded, shape, meaning, verdict, ruled, elementAt, done, read, runAt}
 use Rattle.format.specs.Syntax.{any, _unless_, atMost}
 use Rattle.format.proofs.Steps.{judged-at, step, step-code, step-done}
-use Rattle.depth.specs.Model.{stoppedBy}
+use Rattle.bits.specs.Answers.{onwardRefusal}
 
 -- ---- an element's rule
 
@@ -69,6 +69,6 @@ abbrev pub beside : {A : Type 0} → Onward → A → Out A
 beside (Next c) a = taken a (c .at)
 beside (Refused r) a = refused r
 
-pub stopped-beside : {A : Type 0} (w : Onward) (a : A) → stoppedBy w ≡ refusalIn (beside w a)
+pub stopped-beside : {A : Type 0} (w : Onward) (a : A) → onwardRefusal w ≡ refusalIn (beside w a)
 stopped-beside (Next c) a = refl
 stopped-beside (Refused r) a = refl

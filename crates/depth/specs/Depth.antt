@@ -30,8 +30,11 @@ unfoldable pub flags : Format Flags
 flags = flagsTable
 
 -- "the reference view ue(v) if d min or d max is present"
+abbrev pub refViewTable : ℕ → ℕ → Format ℕ
+refViewTable «d_min_flag» «d_max_flag» = if (eqb «d_min_flag» 1 || eqb «d_max_flag» 1) then ue else (done 0)
+
 unfoldable pub refView : ℕ → ℕ → Format ℕ
-refView «d_min_flag» «d_max_flag» = if (eqb «d_min_flag» 1 || eqb «d_max_flag» 1) then ue else (done 0)
+refView «d_min_flag» «d_max_flag» = refViewTable «d_min_flag» «d_max_flag»
 
 abbrev pub valuesTable : Flags → Format Values
 valuesTable flags = do

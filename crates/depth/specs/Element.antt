@@ -32,8 +32,11 @@ abbrev pub absent : DepthValue
 absent = record { sign = 0; exponent = 0; «length_minus1» = 0; mantissa = 0; number = Absent }
 
 -- "It is absent exactly where its flag is 0"
+abbrev pub elementIfTable : ℕ → Format DepthValue
+elementIfTable flag = if eqb flag 1 then element else (done absent)
+
 unfoldable pub elementIf : ℕ → Format DepthValue
-elementIf flag = if eqb flag 1 then element else (done absent)
+elementIf flag = elementIfTable flag
 
 abbrev pub elementAnswer : ElementRead → Out DepthValue
 elementAnswer (Taken a c) = taken a (c .at)

@@ -4,9 +4,6 @@ use mathlib.Core.List.{List, _++_}
 use lib.ListN.{length, replicate}
 use lib.Dec.{eqb}
 use Rattle.bits.specs.Out.{Out, taken, refused}
-use Rattle.bits.specs.declared.refusal.Refusal.{Refusal}
-use Rattle.bits.specs.declared.refusal.Refusal.the-variants.{Short}
-use Rattle.bits.specs.declared.read.Onward.{Onward}
 use Rattle.bits.specs.declared.read.Onward.the-variants.{Next, Refused}
 use Rattle.format.specs.Format.{Format, done, _>>=_, times}
 use Rattle.format.specs.Syntax.{ue, _must_, atMost, if_then_else_}
@@ -55,8 +52,3 @@ numbersRead (refused r) = record { numbers = noNumbers; onward = Refused r }
 abbrev pub modelRead : Out Model → ModelRead
 modelRead (taken a q) = record { model = a; onward = Next (record { at = q }) }
 modelRead (refused r) = record { model = noModel; onward = Refused r }
-
--- why a reading does not go on; asked only where it does not
-abbrev pub stoppedBy : Onward → Refusal
-stoppedBy (Next c) = Short
-stoppedBy (Refused r) = r

@@ -9,7 +9,6 @@ use crate::element::read_element_if;
 use crate::judged::at_most;
 use crate::model::Model;
 use crate::model::read_model;
-use crate::model::refusal_of;
 use bits::cursor::Cursor;
 use bits::element::byte;
 use bits::element::ue;
@@ -259,7 +258,7 @@ pub fn read(s: &[u8], c: Cursor) -> DepthRead
     let r5 = read_model(s, c4, representation_type);
     let onward = r5.onward;
     let Onward::Next(c5) = onward else {
-        return DepthRead::refused(refusal_of(onward));
+        return DepthRead::refused(onward.refusal());
     };
     let list = r5.model;
     DepthRead {

@@ -9,7 +9,7 @@ ghost use Prim.Native.Nat.{_≤_};
 ghost use Rattle.bits.specs.Bits.{Payload};
 ghost use Rattle.bits.specs.Out.{refused as refusedOut};
 ghost use Rattle.format.specs.Format.{runAt};
-ghost use Rattle.depth.specs.Model.{numbers as numbersFormat, numbersRead, model as modelFormat, modelRead, stoppedBy};
+ghost use Rattle.depth.specs.Model.{numbers as numbersFormat, numbersRead, model as modelFormat, modelRead};
 
 pub struct Model {
     pub count: u8,
@@ -40,16 +40,6 @@ impl ModelRead {
 pub struct NumbersRead {
     pub numbers: [u16; 63],
     pub onward: Onward,
-}
-
-// Why a reading does not go on; asked only where it does not.
-pub fn refusal_of(onward: Onward) -> Refusal
-    ensures { λ r. ⌜ r ≡ stoppedBy onward ⌝ }
-{
-    match onward {
-        Onward::Refused(why) => why,
-        Onward::Next(_) => Refusal::Short,
-    }
 }
 
 // As many numbers as count says.
@@ -100,7 +90,7 @@ pub fn read_model(s: &[u8], c: Cursor, representation_type: u8) -> ModelRead
     let r2 = read_numbers(s, c1, count as usize);
     let onward = r2.onward;
     let Onward::Next(c2) = onward else {
-        return ModelRead::refused(refusal_of(onward));
+        return ModelRead::refused(onward.refusal());
     };
     let numbers = r2.numbers;
     ModelRead {

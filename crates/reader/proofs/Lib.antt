@@ -1,2 +1,5 @@
 pub mod Finish
 pub mod Order
+pub mod Demand2
+pub mod Local
+pub mod Numbers

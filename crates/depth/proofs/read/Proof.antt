@@ -56,7 +56,7 @@ returns-5 c =
     c .refused5 .ensures
     ∙ ap depthRead
     (stop (at5 b) (ap (λ w. beside w (r .model)) (c .before .before .enum-told5 .given .1))
-    (c .before .refusal-of .ensures ∙ stopped-beside (r .onward) (r .model)))
+    (c .before .refusal5 .ensures ∙ stopped-beside (r .onward) (r .model)))
 
 returns-6 : tie.Need-returns-6
 returns-6 c =

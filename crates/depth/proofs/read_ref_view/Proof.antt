@@ -9,15 +9,14 @@ use lib.Dec.{eqb}
 use borrow.Author.Needs.{needs}
 use borrow.Author.Tests.{eq-eqb, ne-eqb}
 use Rattle.bits.specs.Coding.{golomb}
-use Rattle.format.specs.Format.{done, runAt}
-use Rattle.format.specs.Syntax.{ue, if_then_else_}
+use Rattle.format.specs.Format.{runAt}
 use Rattle.format.proofs.Steps.{step-done, step-yes, step-no}
-use Rattle.depth.specs.Depth.{refView}
+use Rattle.depth.specs.Depth.{refViewTable, refView}
 use Rattle.depth.proofs.Laws.{one-code}
 use Rattle.depth.proofs.read_ref_view.Statement.{statement}
 use Rattle.depth.proofs.read_ref_view.Tie as tie
 
-opened : (m x : ℕ) (s : List ℕ) (p : ℕ) → runAt (refView m x) s p ≡ runAt (if (eqb m 1 || eqb x 1) then ue else (done 0)) s p
+opened : (m x : ℕ) (s : List ℕ) (p : ℕ) → runAt (refView m x) s p ≡ runAt (refViewTable m x) s p
 unfolding refView
 opened m x s p = refl
 

@@ -3,17 +3,15 @@
 use Prim.Native.Nat.{ℕ}
 use mathlib.Core.List.{List}
 use mathlib.Core.Path.{_≡_, refl, sym, _∙_}
-use lib.Dec.{eqb}
 use borrow.Author.Needs.{needs}
 use borrow.Author.Tests.{eq-eqb, ne-eqb}
-use Rattle.format.specs.Format.{done, runAt}
-use Rattle.format.specs.Syntax.{if_then_else_}
+use Rattle.format.specs.Format.{runAt}
 use Rattle.format.proofs.Steps.{step-done, step-yes, step-no}
-use Rattle.depth.specs.Element.{absent, element, elementIf}
+use Rattle.depth.specs.Element.{elementIfTable, elementIf}
 use Rattle.depth.proofs.element.read_element_if.Statement.{statement}
 use Rattle.depth.proofs.element.read_element_if.Tie as tie
 
-opened : (flag : ℕ) (s : List ℕ) (p : ℕ) → runAt (elementIf flag) s p ≡ runAt (if eqb flag 1 then element else (done absent)) s p
+opened : (flag : ℕ) (s : List ℕ) (p : ℕ) → runAt (elementIf flag) s p ≡ runAt (elementIfTable flag) s p
 unfolding elementIf
 opened flag s p = refl
 

@@ -43,7 +43,7 @@ returns-3 c =
     c .refused2 .ensures
     ∙ ap modelRead
     (stop (at2 b) (ap (λ w. beside w (r .numbers)) (c .before .before .enum-told2 .given .1))
-    (c .before .refusal-of .ensures ∙ stopped-beside (r .onward) (r .numbers)))
+    (c .before .refusal2 .ensures ∙ stopped-beside (r .onward) (r .numbers)))
 
 returns-4 : tie.Need-returns-4
 returns-4 c =

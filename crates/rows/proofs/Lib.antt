@@ -1,0 +1,5 @@
+pub mod RowLaws
+pub mod TableLaws
+pub mod Outcomes
+pub mod Determined
+mod Examples

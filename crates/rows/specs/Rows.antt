@@ -1,0 +1,102 @@
+-- The region table: 01, "Region table", with the offsets of H.274 8.15.5.2.
+use Prim.Native.Nat.{ℕ, _+_, _*_, _/_}
+use mathlib.Core.Bool.{cond}
+use mathlib.Core.List.{List, [], _∷_, _++_}
+use lib.Dec.{leb}
+use lib.ListN.{length, take, drop}
+use Rattle.bits.specs.Refusals.{byTable, byRows}
+use Rattle.bits.specs.declared.refusal.Refusal.{Refusal}
+use Rattle.regions.specs.Region.{most}
+use Rattle.regions.specs.declared.region.Region.{Region}
+use Rattle.regions.specs.declared.Packing.{Packing}
+use Rattle.rows.specs.declared.Shift.{Shift}
+use Rattle.rows.specs.declared.Split.{Split}
+use Rattle.rows.specs.declared.Split.the-variants.{Whole, Beside, Below}
+use Rattle.rows.specs.declared.Tabled.{Tabled}
+use Rattle.rows.specs.declared.Tabled.the-variants.{Rows, Refused}
+
+-- ---- the rows
+
+-- projected left, top, width, height, packed left, top, width, height, transform
+abbrev pub row : Shift → Region → List ℕ
+row by r =
+    (r .projected .left + by .«projected_left»)
+    ∷ (r .projected .top + by .«projected_top»)
+    ∷ r .projected .width
+    ∷ r .projected .height
+    ∷ (r .packed .left + by .«packed_left»)
+    ∷ (r .packed .top + by .«packed_top»)
+    ∷ r .packed .width
+    ∷ r .packed .height
+    ∷ r .transform
+    ∷ []
+
+-- one row a region
+abbrev pub rowsBy : Shift → List Region → List ℕ
+rowsBy by [] = []
+rowsBy by (r ∷ rs) = row by r ++ rowsBy by rs
+
+abbrev pub noShift : Shift
+noShift = record { «projected_left» = 0; «projected_top» = 0; «packed_left» = 0; «packed_top» = 0 }
+
+-- left, by half the projected and half the packed picture's width, rounded down
+abbrev pub beside : Packing → Shift
+beside p =
+    record { «projected_left» = p .«projected_width» / 2; «projected_top» = 0; «packed_left» = p .«packed_width» / 2; «packed_top» = 0 }
+
+-- top, by half their heights
+abbrev pub below : Packing → Shift
+below p =
+    record { «projected_left» = 0; «projected_top» = p .«projected_height» / 2; «packed_left» = 0; «packed_top» = p .«packed_height» / 2 }
+
+-- one row a region, followed by as many again, shifted
+abbrev pub twiceOf : Shift → List Region → List ℕ
+twiceOf by rs = rowsBy noShift rs ++ rowsBy by rs
+
+-- the record's regions
+abbrev pub regionsOf : Packing → List Region
+regionsOf p = take (p .count) (p .regions)
+
+unfoldable pub rowsOf : Packing → Split → List ℕ
+rowsOf p Whole = rowsBy noShift (regionsOf p)
+rowsOf p Beside = twiceOf (beside p) (regionsOf p)
+rowsOf p Below = twiceOf (below p) (regionsOf p)
+
+-- how many they are
+unfoldable pub rowCount : Packing → Split → ℕ
+rowCount p Whole = p .count
+rowCount p Beside = 2 * p .count
+rowCount p Below = 2 * p .count
+
+-- ---- the call
+
+-- what a call answers and what it writes, which is nothing where it refuses
+pub record Table : Type 0 where
+  pub answer : Tabled
+  pub rows : List ℕ
+
+abbrev pub refuses : Refusal → Table
+refuses why = record { answer = Refused why; rows = [] }
+
+-- n rows where 9 × n numbers are lent, else refusal 10
+abbrev pub fitted : ℕ → List ℕ → ℕ → Table
+fitted n rows room = cond (leb (9 * n) room) (record { answer = Rows n; rows = rows }) (refuses byRows)
+
+-- refusal 9 where the record has no region, or more than it can hold; `room` is how many numbers are lent
+unfoldable pub tableOf : Packing → Split → ℕ → Table
+tableOf p split room =
+    cond (leb 1 (p .count))
+    (cond (leb (p .count) most) (fitted (rowCount p split) (rowsOf p split) room) (refuses byTable))
+    (refuses byTable)
+
+-- what a call answers, and the lent numbers as it leaves them
+pub record Outcome : Type 0 where
+  pub answer : Tabled
+  pub lent : List ℕ
+
+abbrev pub outcome : Tabled → List ℕ → Outcome
+outcome r lent = record { answer = r; lent = lent }
+
+-- what is written stands at the front, and the numbers past it stay
+abbrev pub wrote : Table → List ℕ → Outcome
+wrote t lent = outcome (t .answer) (t .rows ++ drop (length (t .rows)) lent)
