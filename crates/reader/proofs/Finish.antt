@@ -14,16 +14,17 @@ use Rattle.bits.specs.declared.read.Onward.the-variants as onward
 use Rattle.bits.specs.declared.refusal.Refusal.{Refusal}
 use Rattle.format.specs.Format.{runAt}
 use Rattle.format.specs.Whole.{given, ended}
-use Rattle.format.proofs.Whole.{closedAt, whole-at}
-use Rattle.reader.specs.Listed.{Record, zeros, form}
-use Rattle.reader.specs.Answer.{plain, messageOf, made, answerFor, zeroMessage, finished}
+use Rattle.format.proofs.Whole.{endingAt, closedAt, whole-at}
+use Rattle.reader.specs.Listed.{Record, form}
+use Rattle.reader.specs.Answer.{plain, messageOf, made, answerFor, refusedAs, finished}
 use Rattle.reader.specs.Reader.{readingOf}
 use Rattle.reader.specs.declared.kind.Kind.{Kind}
+use Rattle.reader.proofs.Order.{refused-plain}
 use Rattle.reader.specs.declared.answer.Outcome.{Outcome}
 use Rattle.reader.specs.declared.answer.Outcome.the-variants as outcome
 
 -- the answer, by what the elements came to
-pub by-read : (k : Kind) (s : List ℕ) {o : Out (Record k)} → o ≡ runAt (form k .table) s 0 → answerFor k (readingOf k s) ≡ answerFor k (closedAt (form k) s o)
+by-read : (k : Kind) (s : List ℕ) {o : Out (Record k)} → o ≡ runAt (form k .table) s 0 → answerFor k (readingOf k s) ≡ answerFor k (closedAt (form k) s o)
 unfolding readingOf
 by-read k s e = ap (answerFor k) (whole-at (form k) s ∙ ap (closedAt (form k) s) (sym e))
 
@@ -32,13 +33,24 @@ outcomeFor true = outcome.SetAside
 outcomeFor false = outcome.Taken
 
 -- and then by its end, for a kind with nothing beside its message
-pub finish : (k : Kind) (a : Record k)
-    → ((o : Outcome) (e : ℕ) → made k o a e ≡ plain o (messageOf k a) e)
-    → ((o : Outcome) (e : ℕ) → made k o (zeros k) e ≡ plain o (zeroMessage k) e)
-    → (b : Bool) → form k .aside a ≡ b → (t : Ending) → answerFor k (ended (form k .aside) a t) ≡ finished k (outcomeFor b) (messageOf k a) t
-finish k a p q true h (ending.Extension e) = ap (λ x. answerFor k (given x a e)) h ∙ p outcome.SetAside e
-finish k a p q false h (ending.Extension e) = ap (λ x. answerFor k (given x a e)) h ∙ p outcome.Taken e
-finish k a p q b h (ending.Refused r) = q (outcome.Refused r) 0
+finish : (k : Kind) (a : Record k) → ((o : Outcome) (e : ℕ) → made k o a e ≡ plain o (messageOf k a) e) → (b : Bool) → form k .aside a ≡ b → (t : Ending) → answerFor k (ended (form k .aside) a t) ≡ finished k (outcomeFor b) (messageOf k a) t
+finish k a p true h (ending.Extension e) = ap (λ x. answerFor k (given x a e)) h ∙ p outcome.SetAside e
+finish k a p false h (ending.Extension e) = ap (λ x. answerFor k (given x a e)) h ∙ p outcome.Taken e
+finish k a p b h (ending.Refused r) = refused-plain k r
+
+-- the two ends of a kind's reading, from what its reader ensures and which case it came to
+module _ (k : Kind) (s : List ℕ) {o : Out (Record k)} (ensured : o ≡ runAt (form k .table) s 0) where
+  pub by-refused : {r : Refusal} → o ≡ refused r → refusedAs k r ≡ answerFor k (readingOf k s)
+  by-refused {r} e = sym (by-read k s ensured ∙ ap (λ x. answerFor k (closedAt (form k) s x)) e ∙ refused-plain k r)
+
+  pub by-taken : {a : Record k} {q : ℕ} → o ≡ taken a q → answerFor k (closedAt (form k) s (taken a q)) ≡ answerFor k (readingOf k s)
+  by-taken e = sym (by-read k s ensured ∙ ap (λ x. answerFor k (closedAt (form k) s x)) e)
+
+  -- with nothing beside the message
+  pub by-plain : {a : Record k} {q : ℕ} → o ≡ taken a q
+      → ((x : Outcome) (e : ℕ) → made k x a e ≡ plain x (messageOf k a) e)
+      → (b : Bool) → form k .aside a ≡ b → finished k (outcomeFor b) (messageOf k a) (endingAt (form k .tailed) s q) ≡ answerFor k (readingOf k s)
+  by-plain {a} {q} e same b h = sym (finish k a same b h (endingAt (form k .tailed) s q)) ∙ by-taken e
 
 -- a reader that answers a struct, read off what the elements came to
 module _ {A R : Type 0} (readOf : Out A → R) (onwardOf : R → Onward) (valueOf : R → A)

@@ -1,16 +1,12 @@
 -- `reader::message::unregistered` meets its contract: there is no tail to look at.
 -- Assumes nothing.
-use mathlib.Core.Path.{_≡_, refl, sym, ap, _∙_}
+use mathlib.Core.Path.{refl, sym, ap, _∙_}
 use borrow.Author.Needs.{needs}
+use Rattle.format.specs.Format.{runAt}
 use Rattle.user_data.specs.declared.unregistered.UnregisteredRead.{UnregisteredRead}
 use Rattle.user_data.specs.Unregistered.{unregistered, unregisteredRead}
-use Rattle.format.specs.Format.{runAt}
-use Rattle.format.proofs.Whole.{closedAt}
-use Rattle.reader.specs.Listed.{form}
-use Rattle.reader.specs.Answer.{answerFor}
-use Rattle.reader.specs.Reader.{readingOf}
 use Rattle.reader.specs.declared.kind.Kind.the-variants.{Unregistered}
-use Rattle.reader.proofs.Finish.{by-read, went, stood}
+use Rattle.reader.proofs.Finish.{by-refused, by-taken, went, stood}
 use Rattle.reader.proofs.message.unregistered.Statement.{statement}
 use Rattle.reader.proofs.message.unregistered.Tie as tie
 
@@ -18,31 +14,23 @@ returns : tie.Need-returns
 returns c =
     let told = c .before .before .enum-told2 .given .1 in
     let r = c .before .before .before .before in
-    let s = r .before .before .args .s .now in
-    let o = runAt unregistered s 0 in
-    let e = stood unregisteredRead (λ x. x .onward) (λ x. x .«record») (λ a q. refl) (λ a q. refl) (λ r. refl) o (ap (λ (x : UnregisteredRead). x .onward) (sym (r .read .ensures)) ∙ told) in
     rw (c .refused .ensures, c .before .refusal .ensures, told)
-    (sym (by-read Unregistered s {o = o} refl ∙ ap (λ x. answerFor Unregistered (closedAt (form Unregistered) s x)) e))
+    (by-refused Unregistered (r .before .before .args .s .now) refl
+    (stood unregisteredRead (λ x. x .onward) (λ x. x .«record») (λ a q. refl) (λ a q. refl) (λ r. refl) (runAt unregistered _ 0)
+    (ap (λ (x : UnregisteredRead). x .onward) (sym (r .read .ensures)) ∙ told)))
 
 returns-2 : tie.Need-returns-2
 returns-2 c =
-    let known = c .before .before .enum-told .given in
+    let known = c .before .before .enum-told .given .1 in
     let r = c .before .before .before .before in
-    let s = r .before .before .args .s .now in
-    let o = runAt unregistered s 0 in
-    let e = went unregisteredRead (λ x. x .onward) (λ x. x .«record») (λ a q. refl) (λ a q. refl) (λ r. refl) o (ap (λ (x : UnregisteredRead). x .onward) (sym (r .read .ensures)) ∙ known .1) in
     rw (c .with-unregistered .ensures, r .read .ensures)
-    (sym (by-read Unregistered s {o = o} refl ∙ ap (λ x. answerFor Unregistered (closedAt (form Unregistered) s x)) e))
+    (by-taken Unregistered (r .before .before .args .s .now) refl
+    (went unregisteredRead (λ x. x .onward) (λ x. x .«record») (λ a q. refl) (λ a q. refl) (λ r. refl) (runAt unregistered _ 0)
+    (ap (λ (x : UnregisteredRead). x .onward) (sym (r .read .ensures)) ∙ known)))
 
 pub unregistered-spec : {M : Type 1} → statement M
 unregistered-spec =
     tie.close
     (tie.spec
-    (λ c κs. search needs)
-    (λ c. c .match .keys1)
-    (λ c. c .match .keys2)
-    (λ c κs. tt)
-    (λ c κs. tt)
-    returns
-    (λ c κs. tt)
-    returns-2)
+    (λ c κs. search needs) (λ c. c .match .keys1) (λ c. c .match .keys2) (λ c κs. tt) (λ c κs. tt) returns
+    (λ c κs. tt) returns-2)
