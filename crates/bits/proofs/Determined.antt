@@ -73,6 +73,14 @@ Determines n ps r Post =
     → Post κs a y t
     → x ≡ y
 
+-- the same of a function that writes to what it is lent: the arguments a fix the result, and what `seen` sees of what stands at exit
+abbrev pub DeterminesAll : (n : ℕ) (ps : List (PK n)) (r : RK n) {X : Type 0} → ((κs : Lfts n) → AtExit (endedOf n ps r) κs → X) → kinds.Out n ps r → Type 0
+DeterminesAll n ps r seen Post =
+    (κs : Lfts n) (a : Dens κs ps) (x y : resT r κs .Denot) (s t : AtExit (endedOf n ps r) κs)
+    → Post κs a x s
+    → Post κs a y t
+    → (x ≡ y) × (seen κs s ≡ seen κs t)
+
 -- ---- each answer's meaning tells its cases apart: there is a way back
 
 pub told-by : {R X : Type 0} (meaning : R → X) (back : X → R) → ((r : R) → back (meaning r) ≡ r) → (r t : R) → meaning r ≡ meaning t → r ≡ t

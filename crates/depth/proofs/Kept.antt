@@ -22,8 +22,8 @@ use Rattle.depth.specs.declared.model.Model.{Model}
 use Rattle.depth.specs.declared.Flags.{Flags}
 use Rattle.depth.specs.declared.Values.{Values}
 use Rattle.depth.specs.declared.Depth.{Depth}
-use Rattle.depth.proofs.Laws.{at-most-fine}
-use Rattle.depth.proofs.Always.{Always, gives, reads, always-part, always-if, always-any, always-times, always-coded, always-read}
+use Rattle.format.proofs.ReaderLaws.{at-most-fine}
+use Rattle.format.proofs.Always.{Always, gives, reads, always-part, always-if, always-any, always-times, always-coded, always-read}
 
 -- absent exactly where its flag is 0
 abbrev pub AbsentAs : ℕ → DepthValue → Type 0

@@ -1,12 +1,12 @@
 -- The list of a depth message: H.274 8.22.1 from depth_nonlinear_representation_num_minus1 on.
-use Prim.Native.Nat.{ℕ, _+_, _-_}
-use mathlib.Core.List.{List, _++_}
-use lib.ListN.{length, replicate}
+use Prim.Native.Nat.{ℕ, _+_}
+use mathlib.Core.List.{List}
+use lib.ListN.{replicate}
 use lib.Dec.{eqb}
 use Rattle.bits.specs.Out.{Out, taken, refused}
 use Rattle.bits.specs.declared.read.Onward.the-variants.{Next, Refused}
-use Rattle.format.specs.Format.{Format, done, _>>=_, times}
-use Rattle.format.specs.Syntax.{ue, _must_, atMost, if_then_else_}
+use Rattle.format.specs.Format.{Format, done, _>>=_}
+use Rattle.format.specs.Syntax.{ue, _must_, atMost, if_then_else_, listed}
 use Rattle.depth.specs.declared.model.Model.{Model}
 use Rattle.depth.specs.declared.model.ModelRead.{ModelRead}
 use Rattle.depth.specs.declared.model.NumbersRead.{NumbersRead}
@@ -15,16 +15,8 @@ abbrev pub number : Format ℕ
 number = ue must atMost 65535
 
 -- "every list entry past its count" is 0
-abbrev pub padded : List ℕ → List ℕ
-padded xs = xs ++ replicate (63 - length xs) 0
-
-abbrev pub numbersTable : ℕ → Format (List ℕ)
-numbersTable count = do
-  xs ← times count number
-  done (padded xs)
-
 unfoldable pub numbers : ℕ → Format (List ℕ)
-numbers count = numbersTable count
+numbers count = listed 63 0 count number
 
 abbrev pub noNumbers : List ℕ
 noNumbers = replicate 63 0

@@ -3,4 +3,8 @@ pub mod Alike
 pub mod Payload
 pub mod Whole
 pub mod Steps
+pub mod Filling
+pub mod ReaderLaws
+pub mod CodedLaws
+pub mod Always
 pub mod Determined

@@ -1,8 +1,9 @@
 -- The words in which the tables of the messages are written: u(n), ue(v), i(32), bytes, reserved bits, guard band types, rules, and
 -- parts that may be absent.
-use Prim.Native.Nat.{ℕ, _*_}
+use Prim.Native.Nat.{ℕ, _-_, _*_}
 use mathlib.Core.Bool.{Bool, true, false, cond, _&&_, _||_}
-use mathlib.Core.List.{List}
+use mathlib.Core.List.{List, _++_}
+use lib.ListN.{length, replicate}
 use lib.Dec.{leb, ltb, eqb}
 use lib.IntN.{ℤ}
 use lib.Signed.{leZ}
@@ -10,7 +11,7 @@ use Rattle.bits.specs.Refusals.{Breach, broken, Verdict, fine, against}
 use Rattle.bits.specs.Coding.{bits, golomb}
 use Rattle.bits.specs.Signed.{signedOf}
 use Rattle.bits.specs.Identifier.{bytesOf}
-use Rattle.format.specs.Format.{Element, coded, reserved, guardType, Format, done, read}
+use Rattle.format.specs.Format.{Element, coded, reserved, guardType, Format, done, read, _>>=_, times}
 
 -- ---- elements
 
@@ -84,3 +85,13 @@ infixr 10 if_then_else_
 abbrev pub if_then_else_ : {A : Type 0} → Bool → Format A → Format A → Format A
 if true then f else g = f
 if false then f else g = g
+
+-- ---- lists
+
+-- a record's list of `most` entries: those read, and then z in every entry past them
+abbrev pub padded : {A : Type 0} → ℕ → A → List A → List A
+padded most z xs = xs ++ replicate (most - length xs) z
+
+-- `count` messages of f, as such a list
+abbrev pub listed : {A : Type 0} → ℕ → A → ℕ → Format A → Format (List A)
+listed most z count f = times count f >>= (λ xs. done (padded most z xs))

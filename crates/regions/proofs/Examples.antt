@@ -11,7 +11,8 @@ use Rattle.format.specs.Format.{elementFront, run, runAt, times}
 use Rattle.regions.specs.Projected.{projectedArea}
 use Rattle.regions.specs.Packed.{packedArea}
 use Rattle.regions.specs.Bands.{guardTypes, guardBands, noGuardBands}
-use Rattle.regions.specs.Region.{most, region, regions, noRegions, padded}
+use Rattle.format.specs.Syntax.{padded}
+use Rattle.regions.specs.Region.{most, region, regions, noRegions, noRegion}
 use Rattle.regions.specs.Head.{head, pictures}
 use Rattle.regions.specs.Packing.{packing}
 use Rattle.regions.specs.declared.bands.GuardBands.{GuardBands}
@@ -41,7 +42,7 @@ one transform guarded bands =
       «projected_height» = 1920;
       «packed_width» = 2560;
       «packed_height» = 1280;
-      regions = padded
+      regions = padded most noRegion
           (record {
             transform = transform;
             guarded = guarded;

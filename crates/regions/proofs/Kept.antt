@@ -20,7 +20,7 @@ use Rattle.regions.specs.declared.Packing.{Packing}
 use Rattle.regions.specs.Region.{most, region, noRegion}
 use Rattle.regions.specs.Head.{countable, head}
 use Rattle.regions.specs.Packing.{packing}
-use Rattle.regions.proofs.CodedLaws.{times-count, taken-coded}
+use Rattle.format.proofs.CodedLaws.{times-count, taken-coded}
 use Rattle.regions.proofs.Whole.{Alone, Carried, whole}
 
 -- ---- the count

@@ -1,6 +1,4 @@
 pub mod Judged
-pub mod Filling
-pub mod CodedLaws
 pub mod Whole
 pub mod Kept
 pub mod Sizes

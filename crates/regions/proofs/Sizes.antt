@@ -11,7 +11,7 @@ use lib.ListN.{length, take}
 use lib.Seq.{take-at}
 use Rattle.bits.specs.Out.{taken}
 use Rattle.format.specs.Format.{done, runAt}
-use Rattle.format.specs.Syntax.{if_then_else_}
+use Rattle.format.specs.Syntax.{padded, if_then_else_}
 use Rattle.format.specs.Coded.{Coded}
 use Rattle.regions.specs.declared.projected.ProjectedArea.{ProjectedArea}
 use Rattle.regions.specs.declared.packed.PackedArea.{PackedArea}
@@ -24,10 +24,10 @@ use Rattle.regions.specs.declared.Packing.{Packing}
 use Rattle.regions.specs.Projected.{projectedArea}
 use Rattle.regions.specs.Packed.{packedArea}
 use Rattle.regions.specs.Bands.{guardTypes, guardBands, bandsWhere, noGuardBands}
-use Rattle.regions.specs.Region.{region, padded}
+use Rattle.regions.specs.Region.{region, noRegion, most}
 use Rattle.regions.specs.Head.{head, pictures}
 use Rattle.regions.specs.Packing.{packing}
-use Rattle.regions.proofs.CodedLaws.{coded-part, part-long, then-long, total, times-count, times-long, taken-coded}
+use Rattle.format.proofs.CodedLaws.{coded-part, part-long, then-long, total, times-count, times-long, taken-coded}
 use Rattle.regions.proofs.Whole.{Alone, Carried, whole}
 
 -- ---- the parts
@@ -152,7 +152,7 @@ sized w p c =
     let rs = c .list in
     let k = c .front .count in
     let l : length rs ≡ k = times-count region k (c .w₃) rs (c .third) in
-    let r : take k (padded rs) ≡ rs = take-at rs _ k l in
+    let r : take k (padded most noRegion rs) ≡ rs = take-at rs _ k l in
     let n₁ = head-long (c .w₁) (c .front) (c .first) in
     let n₂ = pictures-long (c .w₂) (c .sizes) (c .second) in
     let n₃ = times-long region bits-of region-long k (c .w₃) rs (c .third) in

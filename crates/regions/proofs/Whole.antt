@@ -11,16 +11,16 @@ use lib.ListN.{length}
 use borrow.Author.Tests.{eqb-true, eqb-false}
 use Rattle.bits.proofs.BitLaws.{number-lt}
 use Rattle.format.specs.Format.{Format, done, _>>=_, times}
-use Rattle.format.specs.Syntax.{if_then_else_}
+use Rattle.format.specs.Syntax.{padded, if_then_else_}
 use Rattle.format.specs.Coded.{Coded}
 use Rattle.regions.specs.declared.head.Head.{Head}
 use Rattle.regions.specs.declared.head.Pictures.{Pictures}
 use Rattle.regions.specs.declared.region.Region.{Region}
 use Rattle.regions.specs.declared.Packing.{Packing}
-use Rattle.regions.specs.Region.{region, regions, padded}
+use Rattle.regions.specs.Region.{region, regions, noRegion, most}
 use Rattle.regions.specs.Head.{head, pictures}
 use Rattle.regions.specs.Packing.{packing, cancelled, message}
-use Rattle.regions.proofs.CodedLaws.{coded-part, part-long, then-long}
+use Rattle.format.proofs.CodedLaws.{coded-part, part-long, then-long}
 
 pub record Alone (w : List Bool) (p : Packing) : Type 0 where
   pub cancel : ℕ
@@ -40,7 +40,7 @@ pub record Carried (w : List Bool) (p : Packing) : Type 0 where
   pub second : Coded pictures w₂ sizes
   pub third : Coded (times (front .count) region) w₃ list
   pub long : length w ≡ 1 + (length w₁ + (length w₂ + length w₃))
-  pub is : message 0 front sizes (padded list) ≡ p
+  pub is : message 0 front sizes (padded most noRegion list) ≡ p
 
 -- the regions of a message: the list is what was coded, padded
 record Listed (n : ℕ) (w : List Bool) (rs : List Region) : Type 0 where
@@ -48,13 +48,13 @@ record Listed (n : ℕ) (w : List Bool) (rs : List Region) : Type 0 where
   own : List Bool
   coded : Coded (times n region) own list
   long : length w ≡ length own
-  is : padded list ≡ rs
+  is : padded most noRegion list ≡ rs
 
 listed : (n : ℕ) (w : List Bool) (rs : List Region) → Coded (regions n) w rs → Listed n w rs
 unfolding regions
 listed n w rs d =
-    let p = coded-part (times n region) (λ l. done (padded l)) w rs d in
-    let l = part-long (times n region) (λ l. done (padded l)) p in
+    let p = coded-part (times n region) (λ l. done (padded most noRegion l)) w rs d in
+    let l = part-long (times n region) (λ l. done (padded most noRegion l)) p in
     record { list = p .value; own = p .own; coded = p .coded; long = omega (arith, l, ap length (p .follows .0)); is = p .follows .1 }
 
 -- what follows the sizes, the head and the cancel flag

@@ -1,11 +1,11 @@
 -- Kind 155: one region, and all regions of a message.
-use Prim.Native.Nat.{ℕ, _-_}
-use mathlib.Core.List.{List, _++_}
-use lib.ListN.{length, replicate}
+use Prim.Native.Nat.{ℕ}
+use mathlib.Core.List.{List}
+use lib.ListN.{replicate}
 use Rattle.bits.specs.Out.{Out, taken, refused}
 use Rattle.bits.specs.declared.read.Onward.the-variants.{Next, Refused}
-use Rattle.format.specs.Format.{Format, done, _>>=_, _>>_, times}
-use Rattle.format.specs.Syntax.{u, blank}
+use Rattle.format.specs.Format.{Format, done, _>>=_, _>>_}
+use Rattle.format.specs.Syntax.{u, blank, listed}
 use Rattle.regions.specs.declared.region.Region.{Region}
 use Rattle.regions.specs.declared.region.RegionRead.{RegionRead}
 use Rattle.regions.specs.declared.region.RegionRead.the-variants as region-read
@@ -34,17 +34,9 @@ region = regionTable
 abbrev pub noRegion : Region
 noRegion = record { transform = 0; guarded = 0; projected = noProjectedArea; packed = noPackedArea; guard = noGuardBands }
 
--- a record's list: the regions, and zeros in every entry past them
-abbrev pub padded : List Region → List Region
-padded rs = rs ++ replicate (most - length rs) noRegion
-
-abbrev pub regionsTable : ℕ → Format (List Region)
-regionsTable count = do
-  rs ← times count region
-  done (padded rs)
-
+-- the record's list: the regions, and zeros in every entry past them
 unfoldable pub regions : ℕ → Format (List Region)
-regions count = regionsTable count
+regions count = listed most noRegion count region
 
 abbrev pub noRegions : List Region
 noRegions = replicate most noRegion

@@ -5,8 +5,9 @@ use mathlib.Core.Path.{_≡_, refl}
 use mathlib.Core.List.{List, [], _∷_}
 use lib.ListN.{replicate}
 use Rattle.bits.specs.Refusals.{byTable, byRows}
+use Rattle.format.specs.Syntax.{padded}
 use Rattle.regions.specs.Bands.{noGuardBands}
-use Rattle.regions.specs.Region.{padded}
+use Rattle.regions.specs.Region.{most, noRegion}
 use Rattle.regions.specs.declared.region.Region.{Region}
 use Rattle.regions.specs.declared.Packing.{Packing}
 use Rattle.rows.specs.declared.Split.the-variants.{Whole, Beside, Below}
@@ -24,7 +25,7 @@ packing count width height rs =
       «projected_height» = height;
       «packed_width» = 1;
       «packed_height» = 7;
-      regions = padded rs;
+      regions = padded most noRegion rs;
     }
 
 -- every number of it is told from the others

@@ -12,7 +12,7 @@ use Rattle.format.proofs.Steps.{step-done, step, step-part, At, start, next, la
 use Rattle.depth.specs.Model.{model}
 use Rattle.depth.specs.Depth.{flags, flagsAnswer, refView, values, valuesAnswer, table, depth, depthRead}
 use Rattle.depth.specs.declared.Depth.{Depth}
-use Rattle.depth.proofs.Laws.{at-most-kept, beside, stopped-beside}
+use Rattle.format.proofs.ReaderLaws.{at-most-kept, beside, stopped-beside}
 use Rattle.depth.proofs.Lists.{model-beside}
 use Rattle.depth.proofs.read.Statement.{statement}
 use Rattle.depth.proofs.read.Tie as tie

@@ -12,7 +12,7 @@ use Rattle.bits.specs.Coding.{golomb}
 use Rattle.format.specs.Format.{runAt}
 use Rattle.format.proofs.Steps.{step-done, step-yes, step-no}
 use Rattle.depth.specs.Depth.{refViewTable, refView}
-use Rattle.depth.proofs.Laws.{one-code}
+use Rattle.format.proofs.ReaderLaws.{one-code}
 use Rattle.depth.proofs.read_ref_view.Statement.{statement}
 use Rattle.depth.proofs.read_ref_view.Tie as tie
 

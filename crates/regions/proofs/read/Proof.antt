@@ -18,7 +18,7 @@ use Rattle.regions.specs.declared.Packing.{Packing}
 use Rattle.regions.specs.declared.head.Head.{Head}
 use Rattle.regions.specs.declared.region.Region.{Region}
 use Rattle.regions.specs.declared.region.RegionsRead.{RegionsRead}
-use Rattle.regions.proofs.CodedLaws.{taken-coded}
+use Rattle.format.proofs.CodedLaws.{taken-coded}
 use Rattle.regions.proofs.Kept.{head-kept}
 use Rattle.regions.proofs.read.Statement.{statement}
 use Rattle.regions.proofs.read.Tie as tie

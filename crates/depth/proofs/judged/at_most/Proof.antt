@@ -7,7 +7,7 @@ use Rattle.bits.specs.Answers.{answer}
 use Rattle.format.specs.Format.{coded, ruled, elementAt}
 use Rattle.format.specs.Syntax.{atMost}
 use Rattle.format.proofs.Steps.{element-value, element-refused}
-use Rattle.depth.proofs.Laws.{most-kept, most-broken}
+use Rattle.format.proofs.ReaderLaws.{most-kept, most-broken}
 use Rattle.depth.proofs.judged.at_most.Statement.{statement}
 use Rattle.depth.proofs.judged.at_most.Tie as tie
 

@@ -12,7 +12,7 @@ use Rattle.format.specs.Format.{runAt}
 use Rattle.format.proofs.Steps.{step-done, step, step-yes, step-no, step-part, At, start, next, last, stop}
 use Rattle.depth.specs.Model.{numbers, modelTable, model, modelRead}
 use Rattle.depth.specs.declared.model.Model.{Model}
-use Rattle.depth.proofs.Laws.{at-most-kept, beside, stopped-beside}
+use Rattle.format.proofs.ReaderLaws.{at-most-kept, beside, stopped-beside}
 use Rattle.depth.proofs.Lists.{numbers-beside}
 use Rattle.depth.proofs.model.read_model.Statement.{statement}
 use Rattle.depth.proofs.model.read_model.Tie as tie

@@ -7,41 +7,43 @@ use borrow.Author.Needs.{needs}
 use Rattle.bits.specs.Out.{Out, refused, refusalIn}
 use Rattle.bits.specs.declared.refusal.Refusal.{Refusal}
 use Rattle.regions.specs.declared.region.Region.{Region}
-use Rattle.regions.specs.Region.{regionAnswer, regionsRead}
-use Rattle.regions.proofs.Filling.{Filling, first, one-more, stopped, filled}
+use Rattle.regions.specs.Region.{most, region, noRegion, regions, regionAnswer, regionsRead}
+use Rattle.format.proofs.Filling.{Filling, first, one-more, stopped, filled}
 use Rattle.regions.proofs.region.read_regions.Statement.{statement}
 use Rattle.regions.proofs.region.read_regions.Tie as tie
 
 abbrev Inv-loop : tie.InvT-loop
-Inv-loop s count n regions₀ at₀ i₀ regions at i = Filling s count (at₀ .at) regions i (at .at)
+Inv-loop s count n regions₀ at₀ i₀ regions at i = Filling region most noRegion s count (at₀ .at) regions i (at .at)
 
 abbrev μ-loop : tie.MeasureT-loop
 μ-loop s count n regions₀ at₀ i₀ regions at i = count - i
 
 loop-holds : tie.Need-loop-holds Inv-loop μ-loop
-loop-holds c = rw (c .no-regions .ensures) (first _ _ _ (search needs))
+loop-holds c = rw (c .no-regions .ensures) (first region most noRegion _ _ _ (search needs))
 
 told : {o x : Out Region} {r t : Refusal} → o ≡ x → o ≡ refused r → t ≡ refusalIn o → x ≡ refused t
 told e g f = sym e ∙ g ∙ ap refused (sym (f ∙ ap refusalIn g))
 
 returns : tie.Need-returns Inv-loop μ-loop
+unfolding regions
 returns c =
     let k = c .before .before .before .before in
     let l = k .before .before in
     rw (c .before .no-regions2 .ensures)
     (ap regionsRead
     (sym
-    (stopped _ _ _ (l .loop .inv) (k .before .loop-test .taken)
+    (stopped region most noRegion _ _ _ (l .loop .inv) (k .before .loop-test .taken)
     (told (k .read-region .ensures) (ap regionAnswer (c .before .before .enum-told .given .1)) (c .refusal .ensures)))))
 
 loop-again : tie.Need-loop-again Inv-loop μ-loop
 loop-again c =
     let k = c .before .before .before in
     let l = k .before .before in
-    one-more _ _ _ (l .loop .inv) (k .before .loop-test .taken) (sym (k .read-region .ensures) ∙ ap regionAnswer (c .before .r .given .1))
+    one-more region most noRegion _ _ _ (l .loop .inv) (k .before .loop-test .taken) (sym (k .read-region .ensures) ∙ ap regionAnswer (c .before .r .given .1))
 
 returns-2 : tie.Need-returns-2 Inv-loop μ-loop
-returns-2 c = ap regionsRead (sym (filled _ _ _ (c .before .loop .inv) (c .loop-test .left)))
+unfolding regions
+returns-2 c = ap regionsRead (sym (filled region most noRegion _ _ _ (c .before .loop .inv) (c .loop-test .left)))
 
 pub read-regions-spec : {M : Type 1} → statement M
 read-regions-spec =
