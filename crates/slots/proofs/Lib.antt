@@ -1,0 +1,5 @@
+pub mod Entries
+pub mod HeldLaws
+pub mod Laws
+pub mod Determined
+mod Examples
