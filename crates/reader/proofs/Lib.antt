@@ -3,3 +3,4 @@ pub mod Order
 pub mod Demand2
 pub mod Local
 pub mod Numbers
+pub mod Determined
