@@ -4,3 +4,4 @@ pub mod Demand2
 pub mod Local
 pub mod Numbers
 pub mod Determined
+pub mod Payloads
