@@ -3,3 +3,5 @@ pub mod Order
 pub mod Demand2
 pub mod Local
 pub mod Numbers
+pub mod Determined
+pub mod Payloads

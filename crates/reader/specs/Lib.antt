@@ -1,3 +1,4 @@
 pub mod Listed
 pub mod Answer
 pub mod Reader
+pub mod Payloads

@@ -1,0 +1,33 @@
+-- The payloads of 01 marked *: each is answered as the table says.
+-- Assumes nothing.
+use mathlib.Core.Path.{refl}
+use Rattle.bits.specs.Bits.{bitAt, part, from, number}
+use Rattle.bits.specs.Elements.{uFront, ueAfter}
+use Rattle.bits.specs.Signed.{signedOf}
+use Rattle.bits.specs.Tail.{lastOne, tailOf}
+use Rattle.format.specs.Format.{elementFront, run}
+use Rattle.format.specs.Whole.{whole}
+use Rattle.numbers.specs.Degrees.{degreeBits}
+use Rattle.numbers.specs.Depth.{depthBits}
+use Rattle.frame_packing.specs.FramePacking.{sixFlags, gridPositions, arrangement, framePacking}
+use Rattle.frame_packing.specs.SetAside.{reservedId, reservedType, reservedInterpretation, setAside}
+use Rattle.equirectangular.specs.Equirectangular.{guardBand, equirectangular}
+use Rattle.rotation.specs.Rotation.{angleIn, rotation}
+use Rattle.alpha.specs.Alpha.{flags, information, alpha}
+use Rattle.depth.specs.Element.{element, elementIf}
+use Rattle.depth.specs.Model.{model}
+use Rattle.depth.specs.Depth as depths
+use Rattle.reader.specs.Listed.{named}
+use Rattle.reader.specs.Reader.{readingOf, answerTo}
+use Rattle.reader.specs.Payloads.{Held, All, end, _and_, rows}
+
+pub payloads-hold : All Held rows
+unfolding rows answerTo readingOf named whole run elementFront uFront ueAfter from part number bitAt lastOne tailOf signedOf degreeBits depthBits
+    rotation angleIn framePacking arrangement sixFlags gridPositions setAside reservedId reservedType reservedInterpretation
+    equirectangular guardBand alpha information flags depths.depth depths.flags depths.refView depths.values elementIf element model
+payloads-hold =
+    refl and refl and refl and refl and refl and refl
+    and refl and refl
+    and refl and refl and refl and refl and refl and refl
+    and refl and refl
+    and end
