@@ -5,7 +5,7 @@ use mathlib.Core.Path.{_≡_, refl, sym, ap, ap₂, _∙_}
 use mathlib.Core.Logic.{_⊎_, inl, inr}
 use mathlib.Core.Bool.{Bool, true, false}
 use mathlib.Core.List.{List, [], _∷_, _++_}
-use native.Mathlib.Nat.{lt-of-lt-of-le, add-zero, zero-add, add-suc, suc-add, sub-zero, zero-sub, suc-sub-suc, pow-zero, pow-suc, mul-one, add-mul, mul-assoc, add-assoc}
+use native.Mathlib.Nat.{lt-of-lt-of-le, add-zero, zero-add, add-suc, suc-add, sub-zero, zero-sub, suc-sub-suc, pow-suc, add-mul, mul-assoc, add-assoc}
 use native.Mathlib.Numerals.{add-one}
 use native.Mathlib.Omega.{arith}
 use lib.ListN.{length, take, drop, length-append}

@@ -1,19 +1,19 @@
 -- The laws of u(n), each over n, and of ue(v).
 -- Assumes nothing.
-use Prim.Native.Nat.{ℕ, zero, suc, _+_, _-_, _*_, _^_, _≤_, _<_}
+use Prim.Native.Nat.{ℕ, zero, suc, _+_, _-_, _^_, _≤_, _<_}
 use mathlib.Core.Path.{_≡_, refl, sym, ap, ap₂, _∙_}
 use mathlib.Core.Logic.{_⊎_, inl, inr}
 use mathlib.Core.Bool.{Bool, true, false}
 use mathlib.Core.List.{List, [], _∷_}
 use native.Mathlib.Nat.{add-zero, zero-add, add-suc, suc-add, lt-of-lt-of-le}
 use native.Mathlib.Omega.{arith}
-use lib.ListN.{length, take, drop, length-take}
-use lib.Seq.{length-take-le, drop-nil}
+use lib.ListN.{length, take, drop}
+use lib.Seq.{length-take-le}
 use lib.Pow.{pow-pos, pow-mono}
 use borrow.Author.Tests.{le-leb, lt-leb}
-use Rattle.bits.specs.Bits.{bitsIn, bitAt, part, from, digit, number}
+use Rattle.bits.specs.Bits.{bitsIn, bitAt, part, from, number}
 use Rattle.bits.specs.Out.{Out, taken, refused, placed}
-use Rattle.bits.specs.Elements.{uFront, meant, ueAfter, ueFront, uAt, ueAt, leading}
+use Rattle.bits.specs.Elements.{uFront, meant, ueAfter, uAt, ueAt, leading}
 use Rattle.bits.specs.declared.refusal.Refusal.the-variants.{Short, Zeros}
 use Rattle.bits.proofs.BitLaws.{below, number-lt, length-from, take-from, from-cons, from-end, drop-from}
 

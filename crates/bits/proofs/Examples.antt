@@ -2,8 +2,7 @@
 -- Assumes nothing.
 use mathlib.Core.Path.{_≡_, refl}
 use mathlib.Core.List.{[], _∷_}
-use lib.ListN.{replicate}
-use lib.IntN.{pos, negsuc}
+use lib.IntN.{negsuc}
 use Rattle.bits.specs.Bits.{bitAt, part, from, number}
 use Rattle.bits.specs.Out.{taken, refused}
 use Rattle.bits.specs.Elements.{uFront, ueAfter, uAt, ueAt}

@@ -4,7 +4,7 @@ use Prim.Native.Nat.{ℕ, zero, suc, _+_, _-_, _^_, _≤_, _<_}
 use mathlib.Core.Path.{_≡_, refl, sym, ap, ap₂, _∙_}
 use mathlib.Core.Logic.{_↔_, _⊎_, inl, inr}
 use mathlib.Core.Bool.{Bool, true, false}
-use mathlib.Core.List.{List, [], _∷_, _++_, append-assoc, append-nil}
+use mathlib.Core.List.{List, [], _∷_, _++_, append-assoc}
 use native.Mathlib.Nat.{add-zero, zero-add, add-suc, suc-add}
 use native.Mathlib.Omega.{arith}
 use lib.ListN.{length, take, drop, replicate, length-append, length-replicate, take-append-drop}
@@ -14,11 +14,10 @@ use borrow.Author.Tests.{lt-leb}
 use Rattle.bits.specs.Bits.{number}
 use Rattle.bits.specs.Out.{Out, taken, refused}
 use Rattle.bits.specs.Elements.{uFront, meant, ueAfter}
-use Rattle.bits.specs.Coding.{Shape, bits, golomb, CodedBits, CodedGolomb, CodedShape, Starts, BreaksOff, TooManyZeros, shapeFront}
+use Rattle.bits.specs.Coding.{Shape, bits, golomb, Starts, BreaksOff, TooManyZeros, shapeFront}
 use Rattle.bits.specs.Tail.{Last, none, at, further, lastOne, judged, tailOf, Tailed, Ended}
 use Rattle.bits.specs.declared.refusal.Refusal.{Refusal}
 use Rattle.bits.specs.declared.refusal.Refusal.the-variants.{Short, Zeros, Tail}
-use Rattle.bits.specs.declared.ending.Ending.{Ending}
 use Rattle.bits.specs.declared.ending.Ending.the-variants.{Extension, Refused}
 use Rattle.bits.proofs.BitLaws.{below}
 use Rattle.bits.proofs.ElementLaws.{u-fits, u-breaks}

@@ -1,7 +1,7 @@
 -- The laws of the last one bit, and of a payload's end.
 -- Assumes nothing.
-use Prim.Native.Nat.{ℕ, zero, suc, _+_, _-_, _≤_, _<_}
-use mathlib.Core.Path.{_≡_, refl, sym, ap, _∙_}
+use Prim.Native.Nat.{ℕ, suc, _+_, _-_, _≤_, _<_}
+use mathlib.Core.Path.{_≡_, refl, ap, _∙_}
 use mathlib.Core.Bool.{Bool, true, false}
 use mathlib.Core.List.{List, [], _∷_, _++_}
 use native.Mathlib.Omega.{arith}
@@ -11,7 +11,7 @@ use Rattle.bits.specs.Bits.{bitsIn, bitAt, part, from}
 use Rattle.bits.specs.Tail.{Last, none, at, further, lastOne, judged, tailOf, tailAt}
 use Rattle.bits.specs.declared.ending.Ending.the-variants.{Extension, Refused}
 use Rattle.bits.specs.declared.refusal.Refusal.the-variants.{Tail}
-use Rattle.bits.proofs.BitLaws.{length-part, part-add, from-end, length-from}
+use Rattle.bits.proofs.BitLaws.{length-part, part-add, from-end}
 
 -- a last bit that is 0 is passed over; one that is 1 is the last one
 last-zero : (w : List Bool) → lastOne (w ++ false ∷ []) ≡ lastOne w

@@ -4,7 +4,7 @@ use Prim.Native.Nat.{ℕ, suc, _+_, _-_, _^_, _≤_, _<_}
 use mathlib.Core.Path.{_≡_, refl, sym, ap, ap₂, _∙_, subst}
 use mathlib.Core.Logic.{_⊎_, inl, inr}
 use mathlib.Core.Bool.{Bool, true, false}
-use mathlib.Core.List.{List, [], _∷_, _++_}
+use mathlib.Core.List.{List, _∷_, _++_}
 use native.Mathlib.Nat.{pow-suc}
 use native.Mathlib.Omega.{arith}
 use lib.ListN.{length, take, drop, replicate, length-append, length-replicate}
@@ -12,13 +12,13 @@ use lib.Pow.{pow-pos, pow-mono}
 use lib.Seq.{take-at, drop-at}
 use borrow.Author.Tests.{le-ltb}
 use Rattle.bits.specs.Bits.{number}
-use Rattle.bits.specs.Refusals.{Verdict, fine}
-use Rattle.bits.specs.Out.{Out, taken}
+use Rattle.bits.specs.Refusals.{Verdict}
+use Rattle.bits.specs.Out.{taken}
 use Rattle.bits.specs.Coding.{Shape, bits, golomb, CodedGolomb, CodedShape, shapeFront}
 use Rattle.bits.proofs.BitLaws.{below, number-lt}
 use Rattle.format.specs.Format.{Element, coded, reserved, guardType, shape, meaning, verdict, Format, done, read, run}
-use Rattle.format.specs.Coded.{CodedThen, Coded}
-use Rattle.format.specs.Varied.{Both, Means, Alike, Varied, Variation}
+use Rattle.format.specs.Coded.{Coded}
+use Rattle.format.specs.Varied.{Means, Alike, Varied, Variation}
 use Rattle.format.proofs.Run.{starts-with, run-complete}
 
 -- ---- one element's code at the front of w is the only one

@@ -1,7 +1,7 @@
 -- What holds of every value that a format gives, whatever bits it is read from.
 -- Assumes nothing.
 use Prim.Native.Nat.{ℕ, zero, suc, _^_, _<_}
-use mathlib.Core.Path.{_≡_, refl, sym, ap, subst}
+use mathlib.Core.Path.{_≡_, refl, ap, subst}
 use mathlib.Core.Bool.{Bool, true, false}
 use mathlib.Core.List.{List}
 use lib.ListN.{length}

@@ -7,7 +7,7 @@ use mathlib.Core.List.{List, _++_}
 use native.Mathlib.Nat.{zero-add}
 use native.Mathlib.Omega.{arith}
 use lib.ListN.{length, take, drop, take-append-drop}
-use Rattle.bits.specs.Bits.{bitsIn, from, bitsOf}
+use Rattle.bits.specs.Bits.{bitsIn, bitsOf}
 use Rattle.bits.specs.Out.{Out, taken, refused, placed}
 use Rattle.bits.specs.declared.refusal.Refusal.{Refusal}
 use Rattle.bits.specs.declared.refusal.Refusal.the-variants.{Short}

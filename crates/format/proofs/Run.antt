@@ -1,22 +1,22 @@
 -- The general theorems on what is read and what is coded, once over any format.
 -- Assumes nothing.
-use Prim.Native.Nat.{ℕ, zero, suc, _+_, _-_, _≤_, _<_}
+use Prim.Native.Nat.{ℕ, _+_, _-_, _≤_}
 use mathlib.Core.Path.{_≡_, refl, sym, ap, ap₂, _∙_, subst}
 use mathlib.Core.Logic.{_↔_, _⊎_, inl, inr}
-use mathlib.Core.Bool.{Bool, true, false}
-use mathlib.Core.List.{List, [], _∷_, _++_, append-assoc, append-nil}
+use mathlib.Core.Bool.{Bool, false}
+use mathlib.Core.List.{List, [], _++_, append-assoc}
 use native.Mathlib.Omega.{arith}
 use lib.ListN.{length, take, drop, length-append, take-append-drop, replicate}
 use lib.Seq.{take-at, drop-at, length-take-le}
-use Rattle.bits.specs.Refusals.{Breach, Verdict, fine, against, refusalOf}
+use Rattle.bits.specs.Refusals.{Verdict, fine, against}
 use Rattle.bits.specs.Out.{Out, taken, refused, after, placed, refusalIn}
-use Rattle.bits.specs.Coding.{Shape, bits, golomb, CodedShape, Starts, BreaksOff, TooManyZeros, shapeFront}
+use Rattle.bits.specs.Coding.{Shape, bits, golomb, CodedShape, Starts, TooManyZeros, shapeFront}
 use Rattle.bits.specs.declared.refusal.Refusal.{Refusal}
-use Rattle.bits.specs.declared.refusal.Refusal.the-variants.{Short, Zeros}
+use Rattle.bits.specs.declared.refusal.Refusal.the-variants.{Short}
 use Rattle.bits.proofs.Reading.{not-taken, front-taken, front-zeros, front-short, FrontSeen, seen, short, zeros, front-seen}
 use Rattle.format.specs.Format.{Element, shape, meaning, verdict, ruled, judged, elementFront, Format, done, read, run}
-use Rattle.format.specs.Coded.{CodedThen, Coded}
-use Rattle.format.specs.Stopped.{Breaks, StoppedHere, Stopped}
+use Rattle.format.specs.Coded.{Coded}
+use Rattle.format.specs.Stopped.{StoppedHere, Stopped}
 use Rattle.format.specs.Stopped as here
 
 same-refusal : {A : Type 0} {q t : Refusal} → _≡_ {A = Out A} (refused q) (refused t) → q ≡ t

@@ -1,18 +1,18 @@
 -- A whole payload, once over any kind: each outcome is given exactly where the bits say so; a variation has the same outcome.
 -- Assumes nothing.
-use Prim.Native.Nat.{ℕ, _+_, _≤_}
+use Prim.Native.Nat.{ℕ, _+_}
 use mathlib.Core.Path.{_≡_, refl, sym, ap, _∙_, subst}
 use mathlib.Core.Logic.{_↔_, _⊎_, inl, inr}
 use mathlib.Core.Bool.{Bool, true, false}
-use mathlib.Core.List.{List, [], _++_}
+use mathlib.Core.List.{List, _++_}
 use native.Mathlib.Nat.{zero-add}
 use native.Mathlib.Omega.{arith}
-use lib.ListN.{length, take, drop}
+use lib.ListN.{length, drop}
 use lib.Seq.{drop-at}
 use Rattle.bits.specs.Bits.{from, bitsOf}
 use Rattle.bits.specs.Refusals.{Breach, broken, tooMany, refusalOf}
 use Rattle.bits.specs.Out as out
-use Rattle.bits.specs.Tail.{tailOf, tailAt, Ended}
+use Rattle.bits.specs.Tail.{tailOf, tailAt}
 use Rattle.bits.specs.declared.ending.Ending.{Ending}
 use Rattle.bits.specs.declared.ending.Ending.the-variants.{Extension, Refused}
 use Rattle.bits.specs.declared.refusal.Refusal.{Refusal}

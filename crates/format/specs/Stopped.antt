@@ -3,7 +3,7 @@ use Prim.Native.Nat.{ℕ}
 use mathlib.Core.Path.{_≡_}
 use mathlib.Core.Logic.{_⊎_}
 use mathlib.Core.Bool.{Bool}
-use mathlib.Core.List.{List, [], _++_}
+use mathlib.Core.List.{List, _++_}
 use Rattle.bits.specs.Refusals.{Breach, against, refusalOf}
 use Rattle.bits.specs.Coding.{CodedShape, BreaksOff, TooManyZeros}
 use Rattle.bits.specs.declared.refusal.Refusal.{Refusal}

@@ -11,7 +11,7 @@ use Rattle.bits.specs.Refusals.{Breach, broken, Verdict, fine, against}
 use Rattle.bits.specs.Coding.{bits, golomb}
 use Rattle.bits.specs.Signed.{signedOf}
 use Rattle.bits.specs.Identifier.{bytesOf}
-use Rattle.format.specs.Format.{Element, coded, reserved, guardType, Format, done, read, _>>=_, times}
+use Rattle.format.specs.Format.{coded, reserved, guardType, Format, done, read, _>>=_, times}
 
 -- ---- elements
 
@@ -81,8 +81,8 @@ usable notUsed m = broken unless (eqb notUsed 1 || leb 1 m)
 -- ---- parts
 
 infixr 10 if_then_else_
--- the one format where the test holds, and else the other
-abbrev pub if_then_else_ : {A : Type 0} → Bool → Format A → Format A → Format A
+-- the one where the test holds, and else the other
+abbrev pub if_then_else_ : {A : Type 0} → Bool → A → A → A
 if true then f else g = f
 if false then f else g = g
 

@@ -1,17 +1,16 @@
 -- Demands 1 and 2 over the nine kinds: which number is given exactly when, and which record with it. Each is said of the payload's
 -- bits, w ++ t, and none in terms of how they are read.
 -- Assumes nothing.
-use Prim.Native.Nat.{ℕ, _≤_, _<_}
-use mathlib.Core.Path.{_≡_, refl, sym, ap, _∙_}
-use mathlib.Core.Logic.{_↔_, _⊎_, inl, inr}
-use mathlib.Core.Bool.{Bool, true, false}
+use Prim.Native.Nat.{ℕ}
+use mathlib.Core.Path.{_≡_}
+use mathlib.Core.Logic.{_↔_}
+use mathlib.Core.Bool.{true, false}
 use mathlib.Core.List.{List}
-use lib.ListN.{length, take}
 use Rattle.bits.specs.Bits.{bitsOf}
 use Rattle.bits.specs.declared.refusal.Refusal.{Refusal}
 use Rattle.bits.specs.declared.refusal.Refusal.the-variants.{Tail}
 use Rattle.format.specs.Stopped.{Stopped}
-use Rattle.format.specs.Whole.{Reading, taken, setAside, refused, Holds, BadTail}
+use Rattle.format.specs.Whole.{taken, setAside, refused, Holds, BadTail}
 use Rattle.format.proofs.Whole.{OfElement, Seen, seen, taken-iff, aside-iff, stopped-iff, tail-iff}
 use Rattle.reader.specs.Listed.{Record, form}
 use Rattle.reader.specs.Reader.{readingOf}

@@ -1,13 +1,12 @@
 -- No byte past the stated size has any effect: where two lent slices are both at least that long and agree in their first size bytes,
 -- the answers are equal.
 -- Assumes nothing.
-use Prim.Native.Nat.{ℕ, _≤_, _<_}
-use mathlib.Core.Path.{_≡_, refl, sym, ap, ap₂, _∙_}
-use mathlib.Core.Bool.{Bool, true, false, _&&_}
+use Prim.Native.Nat.{ℕ, _≤_}
+use mathlib.Core.Path.{_≡_, refl, ap, _∙_}
+use mathlib.Core.Bool.{Bool, true, false}
 use mathlib.Core.List.{List}
 use borrow.Author.Tests.{le-leb}
 use lib.ListN.{length, take}
-use lib.Dec.{leb}
 use Rattle.reader.specs.Listed.{named}
 use Rattle.reader.specs.Answer.{answerFor}
 use Rattle.reader.specs.Reader.{readingOf, sized, cut, answered, answerTo}

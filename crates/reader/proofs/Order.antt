@@ -1,8 +1,7 @@
 -- The order of the numbers: 1, then 2, then what the payload comes to.
 -- Assumes nothing.
 use Prim.Native.Nat.{ℕ, _≤_, _<_}
-use mathlib.Core.Path.{_≡_, refl, sym, ap, _∙_}
-use mathlib.Core.Logic.{_⊎_, inl, inr}
+use mathlib.Core.Path.{_≡_, refl, ap, _∙_}
 use mathlib.Core.Bool.{Bool, true, false, _&&_}
 use mathlib.Core.List.{List}
 use borrow.Author.Tests.{le-leb, lt-leb}
@@ -16,7 +15,6 @@ use Rattle.reader.specs.Answer.{answerFor, refusedAs, unknown}
 use Rattle.reader.specs.Reader.{readingOf, sized, cut, answered, answerTo}
 use Rattle.reader.specs.declared.kind.Kind.{Kind}
 use Rattle.reader.specs.declared.kind.Kind.the-variants as kinds
-use Rattle.reader.specs.declared.kind.Named.{Named}
 use Rattle.reader.specs.declared.kind.Named.the-variants.{Listed, Unlisted}
 
 -- a refusal of kind k comes with the zeros of k

@@ -3,6 +3,7 @@
 use mathlib.Core.Bool.{Bool, true, false}
 use mathlib.Core.Path.{_≡_, refl}
 use lib.Dec.{eqb}
+use Rattle.format.specs.Syntax.{if_then_else_}
 use Rattle.slots.specs.Held.{
   noFramePacking,
   noOrientation,
@@ -16,7 +17,6 @@ use Rattle.slots.specs.Held.{
   keptPacking,
   nothing,
   kept,
-  if_then_else_,
 }
 use Rattle.slots.specs.declared.held.Held.{Held}
 

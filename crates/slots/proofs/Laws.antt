@@ -13,7 +13,8 @@ use borrow.Author.Tests.{lt-ltb, le-ltb, ltb-false}
 use Rattle.bits.specs.Refusals.{bySlot}
 use Rattle.bits.proofs.BitLaws.{below}
 use Rattle.bits.specs.declared.refusal.Refusal.{Refusal}
-use Rattle.slots.specs.Held.{nothing, kept, if_then_else_}
+use Rattle.slots.specs.Held.{nothing, kept}
+use Rattle.format.specs.Syntax.{if_then_else_}
 use Rattle.slots.specs.Slots.{
   answerNumber,
   freshSlot,

@@ -1,6 +1,6 @@
 -- What a slot holds: of each of five kinds one record, or nothing.
-use mathlib.Core.Bool.{Bool, true, false}
 use lib.Dec.{eqb}
+use Rattle.format.specs.Syntax.{if_then_else_}
 use Rattle.frame_packing.specs.declared.FramePacking.{FramePacking}
 use Rattle.frame_packing.specs.FramePacking as frame-packing
 use Rattle.orientation.specs.declared.Orientation.{Orientation}
@@ -17,11 +17,6 @@ use Rattle.slots.specs.declared.held.HeldEquirectangular.{HeldEquirectan
 use Rattle.slots.specs.declared.held.HeldRotation.{HeldRotation}
 use Rattle.slots.specs.declared.held.HeldPacking.{HeldPacking}
 use Rattle.slots.specs.declared.held.Held.{Held}
-
-infixr 10 if_then_else_
-abbrev pub if_then_else_ : {A : Type 0} → Bool → A → A → A
-if true then a else b = a
-if false then a else b = b
 
 -- ---- nothing: zeros, and the mark that tells it from a message of zeros
 

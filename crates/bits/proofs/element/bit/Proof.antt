@@ -8,8 +8,6 @@ use Rattle.bits.specs.Bits.{bitAt}
 use Rattle.bits.proofs.BitLaws.{digit-rest}
 use Rattle.bits.proofs.element.bit.Statement.{statement}
 use Rattle.bits.proofs.element.bit.Tie as tie
-use Rattle.bits.proofs.element.bit.Reads as reads
-use Rattle.bits.proofs.element.bit.Lts as lts
 
 shared-slice-read-byte : tie.Need-shared-slice-read-byte
 shared-slice-read-byte c = search needs

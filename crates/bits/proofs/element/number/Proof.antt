@@ -1,6 +1,6 @@
 -- `bits::element::number` meets its contract. The loop's invariant: the value is the number that the first i bits make.
 -- Assumes nothing.
-use Prim.Native.Nat.{ℕ, _≤_, _<_, _+_, _-_}
+use Prim.Native.Nat.{_≤_, _+_, _-_}
 use mathlib.Core.Path.{_≡_, ap, _∙_}
 use native.Mathlib.Omega.{arith}
 use Rattle.bits.specs.Bits.{part, number}

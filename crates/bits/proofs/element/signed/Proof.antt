@@ -9,8 +9,6 @@ use native.Mathlib.Omega.{arith}
 use Rattle.bits.specs.Signed.{signedOf}
 use Rattle.bits.proofs.element.signed.Statement.{statement}
 use Rattle.bits.proofs.element.signed.Tie as tie
-use Rattle.bits.proofs.element.signed.Reads as reads
-use Rattle.bits.proofs.element.signed.Lts as lts
 
 cast-result : tie.Need-cast-result
 cast-result c = search needs

@@ -1,7 +1,7 @@
 -- `bits::element::ue` meets its contract: by the law `ue-at`, it is one less than the number that the first one and the bits after it make.
 -- Assumes nothing.
 use borrow.Author.Needs.{needs}
-use Prim.Native.Nat.{_≤_, _<_, _+_}
+use Prim.Native.Nat.{_<_}
 use mathlib.Core.Path.{_≡_, sym, ap, _∙_}
 use native.Mathlib.Omega.{arith}
 use Rattle.bits.specs.Bits.{from}

@@ -1,6 +1,6 @@
 -- `bits::element::zeros` meets its contract. The loop's invariant: z zeros are counted, and what is left to count stands from p on.
 -- Assumes nothing.
-use Prim.Native.Nat.{ℕ, suc, _≤_, _<_, _+_, _-_}
+use Prim.Native.Nat.{suc, _≤_, _+_, _-_}
 use mathlib.Core.Path.{_≡_, sym, _∙_}
 use native.Mathlib.Omega.{arith}
 use Rattle.bits.specs.Bits.{from}

@@ -1,6 +1,6 @@
 -- `bits::ending::tail` meets its contract. The loop's invariant: every bit from p + k on is 0, so that the last one bit lies among the k bits from p.
 -- Assumes nothing.
-use Prim.Native.Nat.{ℕ, suc, _≤_, _<_, _+_, _-_}
+use Prim.Native.Nat.{_≤_, _+_, _-_}
 use mathlib.Core.Path.{_≡_, sym, ap, _∙_}
 use native.Mathlib.Omega.{arith}
 use Rattle.bits.specs.Bits.{part}

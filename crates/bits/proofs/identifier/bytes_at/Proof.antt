@@ -1,11 +1,9 @@
 -- `bits::identifier::bytes_at` meets its contract. The loop's invariant: the first i bytes are in their places, and zeros follow.
 -- Assumes nothing.
-use Prim.Native.Nat.{ℕ, _≤_, _+_, _-_, _*_}
+use Prim.Native.Nat.{_≤_, _+_, _-_, _*_}
 use mathlib.Core.Path.{_≡_, refl, ap, _∙_}
 use mathlib.Core.List.{append-nil}
 use native.Mathlib.Omega.{arith}
-use lib.ListN.{set}
-use Rattle.bits.specs.Bits.{part, number}
 use Rattle.bits.specs.Identifier.{bytesOf}
 use Rattle.bits.proofs.BitLaws.{part-fits}
 use Rattle.bits.proofs.IdentifierLaws.{filled, fill-next}

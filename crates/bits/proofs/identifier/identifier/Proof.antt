@@ -1,7 +1,7 @@
 -- `bits::identifier::identifier` meets its contract: the 128 bits are there, or one lacks.
 -- Assumes nothing.
 use borrow.Author.Needs.{needs}
-use mathlib.Core.Path.{sym, ap, _∙_}
+use mathlib.Core.Path.{sym, ap}
 use native.Mathlib.Omega.{arith}
 use Rattle.bits.specs.Identifier.{identifierRead}
 use Rattle.bits.proofs.ElementLaws.{u-value, u-short}

@@ -1,6 +1,6 @@
 -- `reader::answer::Answer::number` meets its contract.
 -- Assumes nothing.
-use mathlib.Core.Path.{refl, sym, ap, _∙_}
+use mathlib.Core.Path.{sym, ap, _∙_}
 use Rattle.reader.specs.Answer.{outcomeNumber}
 use Rattle.reader.proofs.answer.Answer.number.Statement.{statement}
 use Rattle.reader.proofs.answer.Answer.number.Tie as tie
