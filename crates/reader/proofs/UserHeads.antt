@@ -1,9 +1,9 @@
 -- What a payload of kind 4 or 5 comes to, by its length and its first byte.
 -- Assumes nothing.
-use Prim.Native.Nat.{ℕ, _+_, _-_, _*_, _/_, _%_, _≤_, _<_}
+use Prim.Native.Nat.{ℕ, _+_, _*_, _/_, _%_, _≤_, _<_}
 use mathlib.Core.Path.{_≡_, refl, sym, ap, _∙_}
 use mathlib.Core.Logic.{_⊎_, inl, inr}
-use mathlib.Core.Bool.{Bool, true, false, cond}
+use mathlib.Core.Bool.{Bool, true, false}
 use mathlib.Core.List.{List}
 use native.Mathlib.Nat.{zero-add}
 use native.Mathlib.Omega.{arith}
@@ -11,7 +11,7 @@ use borrow.Author.Tests.{eqb-true, eqb-false}
 use lib.Dec.{eqb}
 use lib.ListN.{length, take, getD}
 use lib.Seq.{take-take, length-take-le}
-use Rattle.bits.specs.Bits.{bitsIn, bitsOf, bitAt, part, digit, number}
+use Rattle.bits.specs.Bits.{bitsOf, bitAt, part, digit, number}
 use Rattle.bits.specs.Elements.{uAt}
 use Rattle.bits.specs.Identifier.{bytesOf}
 use Rattle.bits.specs.Out as out
@@ -24,7 +24,6 @@ use Rattle.format.specs.Whole.{taken, refused}
 use Rattle.format.proofs.Steps.{step-done, step-code, step-yes, step-no}
 use Rattle.format.proofs.Whole.{closedAt, whole-at}
 use Rattle.user_data.specs.Registered.{registered}
-use Rattle.user_data.specs.Unregistered.{unregistered}
 use Rattle.user_data.specs.declared.registered.Registered.{Registered}
 use Rattle.user_data.proofs.Heads.{named, unregistered-is}
 use Rattle.reader.specs.Listed.{Record, form}
@@ -38,15 +37,24 @@ use Rattle.reader.specs.declared.kind.Kind.the-variants as kinds
 abbrev pub first : List ℕ → ℕ
 first s = number (part s 0 8)
 
--- n bits make a, and one more makes b
-one-more : (s : List ℕ) (n a b : ℕ) → number (part s 0 n) ≡ a → digit (bitAt s n) ≡ b % 2 → b / 2 ≡ a → number (part s 0 (n + 1)) ≡ b
-one-more s n a b h d e = number-next s 0 n ∙ rw (zero-add n) (omega arith)
+-- the first n bits make a, and one more makes the byte over m
+high : (s : List ℕ) (n m a : ℕ) → bitAt s n ≡ eqb (getD s 0 0 / m % 2) 1 → getD s 0 0 / m / 2 ≡ a → number (part s 0 n) ≡ a → number (part s 0 (n + 1)) ≡ getD s 0 0 / m
+high s n m a b e h =
+    let d : digit (bitAt s n) ≡ getD s 0 0 / m % 2 = ap digit b ∙ digit-rest (getD s 0 0 / m % 2) (omega arith) in
+    number-next s 0 n ∙ rw (zero-add n) (omega arith)
 
 -- which is the byte, of bytes
 pub first-byte : (s : List ℕ) → getD s 0 0 < 256 → first s ≡ getD s 0 0
 unfolding number part bitAt
 first-byte s h =
-    one-more s 7 (getD s 0 0 / 2) (getD s 0 0 / 1) (one-more s 6 (getD s 0 0 / 4) (getD s 0 0 / 2) (one-more s 5 (getD s 0 0 / 8) (getD s 0 0 / 4) (one-more s 4 (getD s 0 0 / 16) (getD s 0 0 / 8) (one-more s 3 (getD s 0 0 / 32) (getD s 0 0 / 16) (one-more s 2 (getD s 0 0 / 64) (getD s 0 0 / 32) (one-more s 1 (getD s 0 0 / 128) (getD s 0 0 / 64) (one-more s 0 0 (getD s 0 0 / 128) refl (digit-rest (getD s 0 0 / 128 % 2) (omega arith)) (omega arith)) (digit-rest (getD s 0 0 / 64 % 2) (omega arith)) (omega arith)) (digit-rest (getD s 0 0 / 32 % 2) (omega arith)) (omega arith)) (digit-rest (getD s 0 0 / 16 % 2) (omega arith)) (omega arith)) (digit-rest (getD s 0 0 / 8 % 2) (omega arith)) (omega arith)) (digit-rest (getD s 0 0 / 4 % 2) (omega arith)) (omega arith)) (digit-rest (getD s 0 0 / 2 % 2) (omega arith)) (omega arith)) (digit-rest (getD s 0 0 / 1 % 2) (omega arith)) (omega arith)
+    high s 7 1 (getD s 0 0 / 2) refl (omega arith)
+    (high s 6 2 (getD s 0 0 / 4) refl (omega arith)
+    (high s 5 4 (getD s 0 0 / 8) refl (omega arith)
+    (high s 4 8 (getD s 0 0 / 16) refl (omega arith)
+    (high s 3 16 (getD s 0 0 / 32) refl (omega arith)
+    (high s 2 32 (getD s 0 0 / 64) refl (omega arith)
+    (high s 1 64 (getD s 0 0 / 128) refl (omega arith)
+    (high s 0 128 0 refl (omega arith) refl)))))))
     ∙ omega arith
 
 -- and the same for the payload and for the lent bytes

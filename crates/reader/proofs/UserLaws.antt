@@ -3,7 +3,7 @@
 use Prim.Native.Nat.{ℕ, _-_, _≤_, _<_}
 use mathlib.Core.Path.{_≡_, refl, sym, ap, _∙_, subst}
 use mathlib.Core.Logic.{_↔_, _⊎_, inl, inr}
-use mathlib.Core.Bool.{Bool, true, false, cond}
+use mathlib.Core.Bool.{cond}
 use mathlib.Core.List.{List, []}
 use native.Mathlib.Omega.{arith}
 use borrow.Author.Tests.{ne-eqb}
@@ -31,7 +31,7 @@ use Rattle.reader.specs.declared.answer.Outcome.{Outcome}
 use Rattle.reader.specs.declared.answer.Outcome.the-variants.{Taken, SetAside, Refused}
 use Rattle.reader.specs.declared.user.Start.{Start}
 use Rattle.reader.specs.declared.user.Start.the-variants.{At, Nowhere}
-use Rattle.reader.proofs.Order.{refused-plain, to-unlisted, to-large, to-long, to-payload}
+use Rattle.reader.proofs.Order.{to-unlisted, to-large, to-long, to-payload}
 use Rattle.reader.proofs.UserHeads.{first, first-take, coded, four, five}
 use Rattle.reader.proofs.UserHeads as heads
 
