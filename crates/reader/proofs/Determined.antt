@@ -1,6 +1,10 @@
 -- The public contracts determine their results.
 -- Assumes nothing.
-use mathlib.Core.Path.{sym, _∙_}
+use mathlib.Core.Path.{_≡_, sym, _∙_}
+use contract.Lifetimes.{Lfts}
+use denote.Triple.Clauses.{AtExit}
+use denote.Ref.{now}
+use borrow.Fn.Kinds.{Dens, resT, endedOf}
 use Rattle.bits.proofs.Determined.{Determines}
 use Rattle.reader.proofs.kind.Named.by.Kinds as named-kinds
 use Rattle.reader.proofs.kind.Named.by.Reads as named-reads
@@ -44,6 +48,14 @@ use Rattle.reader.proofs.payload.of_kind.Kinds as of-kind-kinds
 use Rattle.reader.proofs.payload.of_kind.Reads as of-kind-reads
 use Rattle.reader.proofs.payload.read.Kinds as read-kinds
 use Rattle.reader.proofs.payload.read.Reads as read-reads
+use Rattle.reader.proofs.user.Start.registered.Kinds as start-registered-kinds
+use Rattle.reader.proofs.user.Start.registered.Reads as start-registered-reads
+use Rattle.reader.proofs.user.Start.within.Kinds as start-within-kinds
+use Rattle.reader.proofs.user.Start.within.Reads as start-within-reads
+use Rattle.reader.proofs.user.Start.of.Kinds as start-of-kinds
+use Rattle.reader.proofs.user.Start.of.Reads as start-of-reads
+use Rattle.reader.proofs.user.user_part.Kinds as user-part-kinds
+use Rattle.reader.proofs.user.user_part.Reads as user-part-reads
 
 pub named-determined : Determines 0 named-kinds.ps named-kinds.r named-reads.Post
 named-determined κs a x y s t p q = p ∙ sym q
@@ -107,3 +119,20 @@ of-kind-determined κs a x y s t p q = p ∙ sym q
 
 pub read-determined : Determines 1 read-kinds.ps read-kinds.r read-reads.Post
 read-determined κs a x y s t p q = p ∙ sym q
+
+pub start-registered-determined : Determines 0 start-registered-kinds.ps start-registered-kinds.r start-registered-reads.Post
+start-registered-determined κs a x y s t p q = p ∙ sym q
+
+pub start-within-determined : Determines 0 start-within-kinds.ps start-within-kinds.r start-within-reads.Post
+start-within-determined κs a x y s t p q = p ∙ sym q
+
+pub start-of-determined : Determines 0 start-of-kinds.ps start-of-kinds.r start-of-reads.Post
+start-of-determined κs a x y s t p q = p ∙ sym q
+
+-- of the part that is handed back, the bytes; where an empty one lies is not said
+pub user-part-determined :
+    (κs : Lfts 1) (a : Dens κs user-part-kinds.ps) (x y : resT user-part-kinds.r κs .Denot) (s t : AtExit (endedOf 1 user-part-kinds.ps user-part-kinds.r) κs)
+    → user-part-reads.Post κs a x s
+    → user-part-reads.Post κs a y t
+    → now x ≡ now y
+user-part-determined κs a x y s t p q = p ∙ sym q

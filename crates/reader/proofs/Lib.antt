@@ -5,3 +5,5 @@ pub mod Local
 pub mod Numbers
 pub mod Determined
 pub mod Payloads
+pub mod UserHeads
+pub mod UserLaws

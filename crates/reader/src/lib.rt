@@ -3,3 +3,4 @@ pub mod answer;
 pub mod kind;
 pub mod message;
 pub mod payload;
+pub mod user;

@@ -1,0 +1,327 @@
+-- Kinds 4 and 5, on any size and bytes: what is answered exactly when, and which part of the lent bytes is handed back.
+-- Assumes nothing.
+use Prim.Native.Nat.{ℕ, _-_, _≤_, _<_}
+use mathlib.Core.Path.{_≡_, refl, sym, ap, _∙_, subst}
+use mathlib.Core.Logic.{_↔_, _⊎_, inl, inr}
+use mathlib.Core.Bool.{cond}
+use mathlib.Core.List.{List, []}
+use native.Mathlib.Omega.{arith}
+use borrow.Author.Tests.{ne-eqb}
+use lib.Dec.{eqb}
+use lib.ListN.{length, take, drop}
+use lib.Seq.{length-take-le}
+use Rattle.bits.specs.Bits.{part, number}
+use Rattle.bits.specs.Identifier.{bytesOf}
+use Rattle.bits.specs.Refusals.{bySize}
+use Rattle.bits.specs.declared.refusal.Refusal.the-variants.{Short}
+use Rattle.bits.proofs.BitLaws.{below}
+use Rattle.format.specs.Whole.{Reading, taken, setAside, refused}
+use Rattle.user_data.specs.Registered.{headBytes}
+use Rattle.reader.specs.Listed.{Record, named}
+use Rattle.reader.specs.Answer.{outcomeNumber, numberOf, messageOf, answerFor, made, refusedAs}
+use Rattle.reader.specs.Reader.{readingOf, answerTo}
+use Rattle.reader.specs.User.{startIn, startFor, startOf, partFrom, userPart}
+use Rattle.reader.specs.declared.kind.Kind.{Kind}
+use Rattle.reader.specs.declared.kind.Kind.the-variants as kinds
+use Rattle.reader.specs.declared.kind.Named.{Named}
+use Rattle.reader.specs.declared.kind.Named.the-variants.{Listed, Unlisted}
+use Rattle.reader.specs.declared.answer.Answer.{Answer}
+use Rattle.reader.specs.declared.answer.Message.{Message}
+use Rattle.reader.specs.declared.answer.Outcome.{Outcome}
+use Rattle.reader.specs.declared.answer.Outcome.the-variants.{Taken, SetAside, Refused}
+use Rattle.reader.specs.declared.user.Start.{Start}
+use Rattle.reader.specs.declared.user.Start.the-variants.{At, Nowhere}
+use Rattle.reader.proofs.Order.{to-unlisted, to-large, to-long, to-payload}
+use Rattle.reader.proofs.UserHeads.{first, first-take, coded, four, five}
+use Rattle.reader.proofs.UserHeads as heads
+
+-- ---- where a part starts, that lies within the size, and the size within the lent bytes
+
+never : {X : Type 0} {a : ℕ} → Nowhere ≡ At a → X
+never e = let z : _≡_ {A = ℕ} 0 1 = cc in absurd (omega arith)
+
+same : {a b : ℕ} → At a ≡ At b → a ≡ b
+same e = cc
+
+head-1 : (code extension : ℕ) → (code ≡ 255 → ⊥) → headBytes (coded code extension) ≡ 1
+head-1 code extension h = ap (λ b. cond b 2 1) (ne-eqb code 255 h)
+
+head-2 : (code extension : ℕ) → code ≡ 255 → headBytes (coded code extension) ≡ 2
+head-2 code extension h = ap (λ c. cond (eqb c 255) 2 1) h
+
+-- the start in a payload s of kind k
+abbrev starts : Kind → List ℕ → Start
+starts k s = startOf (answerFor k (readingOf k s))
+
+four-inside : (s : List ℕ) {a : ℕ} → starts kinds.Registered s ≡ At a → a ≤ length s
+four-inside s {a} h = go (four s)
+  where
+    by : {x : Reading (Record kinds.Registered)} → readingOf kinds.Registered s ≡ x → startOf (answerFor kinds.Registered x) ≡ At a
+    by e = ap (λ x. startOf (answerFor kinds.Registered x)) (sym e) ∙ h
+
+    go : heads.Four s → a ≤ length s
+    go (heads.empty l e) = never (by e)
+    go (heads.cut l m f e) = never (by e)
+    go (heads.one l f e) = omega (arith, head-1 (first s) 0 f, same (by e))
+    go (heads.two l f e) = omega (arith, head-2 (first s) (number (part s 8 8)) f, same (by e))
+
+five-inside : (s : List ℕ) {a : ℕ} → starts kinds.Unregistered s ≡ At a → a ≤ length s
+five-inside s {a} h = go (five s)
+  where
+    by : {x : Reading (Record kinds.Unregistered)} → readingOf kinds.Unregistered s ≡ x → startOf (answerFor kinds.Unregistered x) ≡ At a
+    by e = ap (λ x. startOf (answerFor kinds.Unregistered x)) (sym e) ∙ h
+
+    go : heads.Five s → a ≤ length s
+    go (heads.short l e) = never (by e)
+    go (heads.whole l e) = omega (arith, same (by e))
+
+-- no other kind has a part
+data Which : Kind → Type 0 where
+  registered : Which kinds.Registered
+  unregistered : Which kinds.Unregistered
+  neither : {k : Kind} → ((a : Record k) → startIn (messageOf k a) ≡ Nowhere) → Which k
+
+which : (k : Kind) → Which k
+which kinds.FramePacking = neither (λ a. refl)
+which kinds.Orientation = neither (λ a. refl)
+which kinds.Equirectangular = neither (λ a. refl)
+which kinds.Rotation = neither (λ a. refl)
+which kinds.RegionWise = neither (λ a. refl)
+which kinds.Alpha = neither (λ a. refl)
+which kinds.Depth = neither (λ a. refl)
+which kinds.Registered = registered
+which kinds.Unregistered = unregistered
+
+no-start : (k : Kind) → ((a : Record k) → startIn (messageOf k a) ≡ Nowhere) → (x : Reading (Record k)) → startOf (answerFor k x) ≡ Nowhere
+no-start k h (taken a e) = h a
+no-start k h (setAside a e) = refl
+no-start k h (refused r) = refl
+
+inside : {k : Kind} → Which k → (s : List ℕ) {a : ℕ} → starts k s ≡ At a → a ≤ length s
+inside registered s h = four-inside s h
+inside unregistered s h = five-inside s h
+inside {k} (neither n) s h = never (sym (no-start k n (readingOf k s)) ∙ h)
+
+pub within : (n size : ℕ) (bytes : List ℕ) {a : ℕ} → startOf (answerTo n size bytes) ≡ At a → (a ≤ size) × (size ≤ length bytes)
+within n size bytes {a} h = go (named n) refl (below 8192 size) (below (length bytes) size)
+  where
+    by : {x : Answer} → answerTo n size bytes ≡ x → startOf x ≡ At a
+    by e = ap startOf (sym e) ∙ h
+
+    go : (x : Named) → named n ≡ x → (8192 < size) ⊎ (size ≤ 8192) → (length bytes < size) ⊎ (size ≤ length bytes) → (a ≤ size) × (size ≤ length bytes)
+    go Unlisted e b c = never (by (to-unlisted n size bytes e))
+    go (Listed k) e (inl b) c = never (by (to-large n size bytes k e b))
+    go (Listed k) e (inr b) (inl c) = never (by (to-long n size bytes k e b c))
+    go (Listed k) e (inr b) (inr c) =
+        let i : a ≤ length (take size bytes) = inside (which k) (take size bytes) (by (to-payload n size bytes k e b c)) in
+        let l : length (take size bytes) ≡ size = length-take-le size bytes c in
+        (omega arith, c)
+
+-- ---- what has no part
+
+by-outcome : (o : Outcome) (m : Message) → (outcomeNumber o ≡ 0 → ⊥) → startFor o m ≡ Nowhere
+by-outcome Taken m h = absurd (h refl)
+by-outcome SetAside m h = refl
+by-outcome (Refused r) m h = refl
+
+module _ (n size : ℕ) (bytes : List ℕ) where
+  by-start : {x : Start} → startOf (answerTo n size bytes) ≡ x → userPart n size bytes ≡ partFrom x size bytes
+  unfolding userPart
+  by-start e = ap (λ (x : Start). partFrom x size bytes) e
+
+  -- the part is empty where the number is not 0 ..
+  pub part-refused : (numberOf (answerTo n size bytes) ≡ 0 → ⊥) → userPart n size bytes ≡ []
+  part-refused h = let a = answerTo n size bytes in by-start (by-outcome (a .outcome) (a .message) h)
+
+  -- .. and for every kind but 4 and 5
+  pub part-other : (k : Kind) → named n ≡ Listed k → (k ≡ kinds.Registered → ⊥) → (k ≡ kinds.Unregistered → ⊥) → userPart n size bytes ≡ []
+  part-other k e f g = go (which k) refl (below 8192 size) (below (length bytes) size)
+    where
+      go : {l : Kind} → Which l → l ≡ k → (8192 < size) ⊎ (size ≤ 8192) → (length bytes < size) ⊎ (size ≤ length bytes) → userPart n size bytes ≡ []
+      go registered h b c = absurd (f (sym h))
+      go unregistered h b c = absurd (g (sym h))
+      go (neither m) h (inl b) c = by-start (ap startOf (to-large n size bytes k e b))
+      go (neither m) h (inr b) (inl c) = by-start (ap startOf (to-long n size bytes k e b c))
+      go {l} (neither m) h (inr b) (inr c) =
+          by-start (ap startOf (to-payload n size bytes k e b c) ∙ no-start k (subst (λ (x : Kind). (a : Record x) → startIn (messageOf x a) ≡ Nowhere) h m) (readingOf k (take size bytes)))
+
+-- ---- kind 4
+
+four-named : named 4 ≡ Listed kinds.Registered
+unfolding named
+four-named = refl
+
+five-named : named 5 ≡ Listed kinds.Unregistered
+unfolding named
+five-named = refl
+
+module _ (size : ℕ) (bytes : List ℕ) where
+  -- the stated size exceeds a limit, or lies within both
+  abbrev Over : Type 0
+  Over = (8192 < size) ⊎ (length bytes < size)
+
+  -- the ways of a call: 2; 3 for a head that is cut; a head of one byte; a head of two
+  data Call4 : Type 0 where
+    over : Over → answerTo 4 size bytes ≡ refusedAs kinds.Registered bySize → Call4
+    cut : size ≤ 8192 → size ≤ length bytes → (size < 1) ⊎ ((first bytes ≡ 255) × (size < 2)) → answerTo 4 size bytes ≡ refusedAs kinds.Registered Short → Call4
+    one : size ≤ 8192 → size ≤ length bytes → 1 ≤ size → (first bytes ≡ 255 → ⊥) → answerTo 4 size bytes ≡ made kinds.Registered Taken (coded (first bytes) 0) 0 → Call4
+    two : (x : ℕ) → size ≤ 8192 → size ≤ length bytes → 2 ≤ size → first bytes ≡ 255 → answerTo 4 size bytes ≡ made kinds.Registered Taken (coded (first bytes) x) 0 → Call4
+
+  call-4 : Call4
+  call-4 = go (below 8192 size) (below (length bytes) size)
+    where
+      payload : (b : size ≤ 8192) (c : size ≤ length bytes) → length (take size bytes) ≡ size → heads.Four (take size bytes) → Call4
+      payload b c l (heads.empty h e) = cut b c (inl (omega arith)) (to-payload 4 size bytes kinds.Registered four-named b c ∙ ap (answerFor kinds.Registered) e)
+      payload b c l (heads.cut g h f e) =
+          cut b c (inr (sym (first-take size bytes (omega arith) c) ∙ f, omega arith)) (to-payload 4 size bytes kinds.Registered four-named b c ∙ ap (answerFor kinds.Registered) e)
+      payload b c l (heads.one h f e) =
+          let t : first (take size bytes) ≡ first bytes = first-take size bytes (omega arith) c in
+          one b c (omega arith) (λ g. f (t ∙ g))
+          (to-payload 4 size bytes kinds.Registered four-named b c ∙ ap (answerFor kinds.Registered) e ∙ ap (λ (x : ℕ). made kinds.Registered Taken (coded x 0) 0) t)
+      payload b c l (heads.two h f e) =
+          let t : first (take size bytes) ≡ first bytes = first-take size bytes (omega arith) c in
+          let y = number (part (take size bytes) 8 8) in
+          two y b c (omega arith) (sym t ∙ f)
+          (to-payload 4 size bytes kinds.Registered four-named b c ∙ ap (answerFor kinds.Registered) e ∙ ap (λ (x : ℕ). made kinds.Registered Taken (coded x y) 0) t)
+
+      go : (8192 < size) ⊎ (size ≤ 8192) → (length bytes < size) ⊎ (size ≤ length bytes) → Call4
+      go (inl b) c = over (inl b) (to-large 4 size bytes kinds.Registered four-named b)
+      go (inr b) (inl c) = over (inr c) (to-long 4 size bytes kinds.Registered four-named b c)
+      go (inr b) (inr c) = payload b c (length-take-le size bytes c) (four (take size bytes))
+
+  not-over : {X : Type 0} → Over → size ≤ 8192 → size ≤ length bytes → X
+  not-over (inl o) b c = absurd (omega arith)
+  not-over (inr o) b c = absurd (omega arith)
+
+  -- 0 exactly where the size is within the limits and the country code is there, with one more byte where it is 255
+  pub taken-4 : (numberOf (answerTo 4 size bytes) ≡ 0) ↔ ((size ≤ 8192) × (size ≤ length bytes) × (1 ≤ size) × ((first bytes ≡ 255 → ⊥) ⊎ (2 ≤ size)))
+  taken-4 = (λ h. sound h call-4, λ d. complete (d .0) (d .1) (d .2) (d .3) call-4)
+    where
+      sound : numberOf (answerTo 4 size bytes) ≡ 0 → Call4 → (size ≤ 8192) × (size ≤ length bytes) × (1 ≤ size) × ((first bytes ≡ 255 → ⊥) ⊎ (2 ≤ size))
+      sound h (over o e) = absurd (omega (arith, ap numberOf e))
+      sound h (cut b c d e) = absurd (omega (arith, ap numberOf e))
+      sound h (one b c l f e) = (b, c, l, inl f)
+      sound h (two x b c l f e) = (b, c, omega arith, inr l)
+
+      complete : size ≤ 8192 → size ≤ length bytes → 1 ≤ size → (first bytes ≡ 255 → ⊥) ⊎ (2 ≤ size) → Call4 → numberOf (answerTo 4 size bytes) ≡ 0
+      complete b c l f (over o e) = not-over o b c
+      complete b c l f (cut _ _ (inl d) e) = absurd (omega arith)
+      complete b c l (inl f) (cut _ _ (inr d) e) = absurd (f (d .0))
+      complete b c l (inr f) (cut _ _ (inr d) e) = absurd (omega (arith, d .1))
+      complete b c l f (one _ _ _ _ e) = ap numberOf e
+      complete b c l f (two _ _ _ _ _ e) = ap numberOf e
+
+  -- within the limits, 3 exactly where it is not
+  pub short-4 : (numberOf (answerTo 4 size bytes) ≡ 3) ↔ ((size ≤ 8192) × (size ≤ length bytes) × ((size < 1) ⊎ ((first bytes ≡ 255) × (size < 2))))
+  short-4 = (λ h. sound h call-4, λ d. complete (d .0) (d .1) (d .2) call-4)
+    where
+      sound : numberOf (answerTo 4 size bytes) ≡ 3 → Call4 → (size ≤ 8192) × (size ≤ length bytes) × ((size < 1) ⊎ ((first bytes ≡ 255) × (size < 2)))
+      sound h (over o e) = absurd (omega (arith, ap numberOf e))
+      sound h (cut b c d e) = (b, c, d)
+      sound h (one b c l f e) = absurd (omega (arith, ap numberOf e))
+      sound h (two x b c l f e) = absurd (omega (arith, ap numberOf e))
+
+      complete : size ≤ 8192 → size ≤ length bytes → (size < 1) ⊎ ((first bytes ≡ 255) × (size < 2)) → Call4 → numberOf (answerTo 4 size bytes) ≡ 3
+      complete b c d (over o e) = not-over o b c
+      complete b c d (cut _ _ _ e) = ap numberOf e
+      complete b c (inl d) (one _ _ l _ e) = absurd (omega arith)
+      complete b c (inr d) (one _ _ _ f e) = absurd (f (d .0))
+      complete b c (inl d) (two _ _ _ l _ e) = absurd (omega arith)
+      complete b c (inr d) (two _ _ _ l _ e) = absurd (omega (arith, d .1))
+
+  pub extension-4 : answerTo 4 size bytes .extension ≡ 0
+  extension-4 = go call-4
+    where
+      go : Call4 → answerTo 4 size bytes .extension ≡ 0
+      go (over o e) = ap (λ (a : Answer). a .extension) e
+      go (cut b c d e) = ap (λ (a : Answer). a .extension) e
+      go (one b c l f e) = ap (λ (a : Answer). a .extension) e
+      go (two x b c l f e) = ap (λ (a : Answer). a .extension) e
+
+  -- the part is the bytes after the first, or after the second
+  pub part-4 : size ≤ 8192 → size ≤ length bytes → 1 ≤ size → (first bytes ≡ 255 → ⊥) → userPart 4 size bytes ≡ take (size - 1) (drop 1 bytes)
+  part-4 b c l f = go call-4
+    where
+      go : Call4 → userPart 4 size bytes ≡ take (size - 1) (drop 1 bytes)
+      go (over o e) = not-over o b c
+      go (cut _ _ (inl d) e) = absurd (omega arith)
+      go (cut _ _ (inr d) e) = absurd (f (d .0))
+      go (one _ _ _ _ e) = by-start 4 size bytes (ap startOf e ∙ ap At (head-1 (first bytes) 0 f))
+      go (two _ _ _ _ g e) = absurd (f g)
+
+  pub part-4-extended : size ≤ 8192 → size ≤ length bytes → 2 ≤ size → first bytes ≡ 255 → userPart 4 size bytes ≡ take (size - 2) (drop 2 bytes)
+  part-4-extended b c l f = go call-4
+    where
+      go : Call4 → userPart 4 size bytes ≡ take (size - 2) (drop 2 bytes)
+      go (over o e) = not-over o b c
+      go (cut _ _ (inl d) e) = absurd (omega arith)
+      go (cut _ _ (inr d) e) = absurd (omega (arith, d .1))
+      go (one _ _ _ g e) = absurd (g f)
+      go (two x _ _ _ _ e) = by-start 4 size bytes (ap startOf e ∙ ap At (head-2 (first bytes) x f))
+
+  -- ---- kind 5
+
+  abbrev identified : List ℕ → Answer
+  identified s = made kinds.Unregistered Taken (record { identifier = bytesOf 16 (number (part s 0 128)) }) 0
+
+  data Call5 : Type 0 where
+    over-5 : Over → answerTo 5 size bytes ≡ refusedAs kinds.Unregistered bySize → Call5
+    cut-5 : size ≤ 8192 → size ≤ length bytes → size < 16 → answerTo 5 size bytes ≡ refusedAs kinds.Unregistered Short → Call5
+    sixteen : size ≤ 8192 → size ≤ length bytes → 16 ≤ size → answerTo 5 size bytes ≡ identified (take size bytes) → Call5
+
+  call-5 : Call5
+  call-5 = go (below 8192 size) (below (length bytes) size)
+    where
+      payload : (b : size ≤ 8192) (c : size ≤ length bytes) → length (take size bytes) ≡ size → heads.Five (take size bytes) → Call5
+      payload b c l (heads.short h e) = cut-5 b c (omega arith) (to-payload 5 size bytes kinds.Unregistered five-named b c ∙ ap (answerFor kinds.Unregistered) e)
+      payload b c l (heads.whole h e) = sixteen b c (omega arith) (to-payload 5 size bytes kinds.Unregistered five-named b c ∙ ap (answerFor kinds.Unregistered) e)
+
+      go : (8192 < size) ⊎ (size ≤ 8192) → (length bytes < size) ⊎ (size ≤ length bytes) → Call5
+      go (inl b) c = over-5 (inl b) (to-large 5 size bytes kinds.Unregistered five-named b)
+      go (inr b) (inl c) = over-5 (inr c) (to-long 5 size bytes kinds.Unregistered five-named b c)
+      go (inr b) (inr c) = payload b c (length-take-le size bytes c) (five (take size bytes))
+
+  -- 0 exactly where the size is within the limits and sixteen bytes are there
+  pub taken-5 : (numberOf (answerTo 5 size bytes) ≡ 0) ↔ ((size ≤ 8192) × (size ≤ length bytes) × (16 ≤ size))
+  taken-5 = (λ h. sound h call-5, λ d. complete (d .0) (d .1) (d .2) call-5)
+    where
+      sound : numberOf (answerTo 5 size bytes) ≡ 0 → Call5 → (size ≤ 8192) × (size ≤ length bytes) × (16 ≤ size)
+      sound h (over-5 o e) = absurd (omega (arith, ap numberOf e))
+      sound h (cut-5 b c d e) = absurd (omega (arith, ap numberOf e))
+      sound h (sixteen b c l e) = (b, c, l)
+
+      complete : size ≤ 8192 → size ≤ length bytes → 16 ≤ size → Call5 → numberOf (answerTo 5 size bytes) ≡ 0
+      complete b c l (over-5 o e) = not-over o b c
+      complete b c l (cut-5 _ _ d e) = absurd (omega arith)
+      complete b c l (sixteen _ _ _ e) = ap numberOf e
+
+  -- within the limits, 3 exactly where they are not
+  pub short-5 : (numberOf (answerTo 5 size bytes) ≡ 3) ↔ ((size ≤ 8192) × (size ≤ length bytes) × (size < 16))
+  short-5 = (λ h. sound h call-5, λ d. complete (d .0) (d .1) (d .2) call-5)
+    where
+      sound : numberOf (answerTo 5 size bytes) ≡ 3 → Call5 → (size ≤ 8192) × (size ≤ length bytes) × (size < 16)
+      sound h (over-5 o e) = absurd (omega (arith, ap numberOf e))
+      sound h (cut-5 b c d e) = (b, c, d)
+      sound h (sixteen b c l e) = absurd (omega (arith, ap numberOf e))
+
+      complete : size ≤ 8192 → size ≤ length bytes → size < 16 → Call5 → numberOf (answerTo 5 size bytes) ≡ 3
+      complete b c d (over-5 o e) = not-over o b c
+      complete b c d (cut-5 _ _ _ e) = ap numberOf e
+      complete b c d (sixteen _ _ l e) = absurd (omega arith)
+
+  pub extension-5 : answerTo 5 size bytes .extension ≡ 0
+  extension-5 = go call-5
+    where
+      go : Call5 → answerTo 5 size bytes .extension ≡ 0
+      go (over-5 o e) = ap (λ (a : Answer). a .extension) e
+      go (cut-5 b c d e) = ap (λ (a : Answer). a .extension) e
+      go (sixteen b c l e) = ap (λ (a : Answer). a .extension) e
+
+  -- the part is the bytes after the sixteenth
+  pub part-5 : size ≤ 8192 → size ≤ length bytes → 16 ≤ size → userPart 5 size bytes ≡ take (size - 16) (drop 16 bytes)
+  part-5 b c l = go call-5
+    where
+      go : Call5 → userPart 5 size bytes ≡ take (size - 16) (drop 16 bytes)
+      go (over-5 o e) = not-over o b c
+      go (cut-5 _ _ d e) = absurd (omega arith)
+      go (sixteen _ _ _ e) = by-start 5 size bytes (ap startOf e)

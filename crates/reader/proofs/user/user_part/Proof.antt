@@ -1,0 +1,43 @@
+-- `reader::user::user_part` meets its contract: the part lies where the reader's answer says.
+-- Assumes nothing.
+use Prim.Native.Nat.{_≤_}
+use mathlib.Core.Path.{_≡_, sym, ap, _∙_}
+use native.Mathlib.Omega.{arith}
+use borrow.Author.Needs.{needs}
+use denote.Ref.{now}
+use lib.ListN.{length}
+use Rattle.reader.specs.Reader.{answerTo}
+use Rattle.reader.specs.User.{startOf, partFrom, userPart}
+use Rattle.reader.specs.declared.user.Start.{Start}
+use Rattle.reader.proofs.UserLaws.{within}
+use Rattle.reader.proofs.user.user_part.Statement.{statement}
+use Rattle.reader.proofs.user.user_part.Tie as tie
+
+-- what `of` and `read` ensure together
+starts : (c : tie.After-of) → let a = c .before .before .before .args in c .of .result ≡ startOf (answerTo (a .kind) (a .size) (now (a .bytes)))
+starts c = c .of .ensures ∙ ap startOf (c .before .read .ensures)
+
+-- and so, by the start x
+parts : (c : tie.After-of) (x : Start) → c .of .result ≡ x → let a = c .before .before .before .args in
+    partFrom x (a .size) (now (a .bytes)) ≡ userPart (a .kind) (a .size) (now (a .bytes))
+unfolding userPart
+parts c x e = let a = c .before .before .before .args in ap (λ (y : Start). partFrom y (a .size) (now (a .bytes))) (sym e ∙ starts c)
+
+inside : (c : tie.After-known-told) → let a = c .before .before .before .before .before .before .args in
+    (c .before .start .given .0 .0 ≤ a .size) × (a .size ≤ length (now (a .bytes)))
+inside c = let o = c .before .before .before in within _ _ _ (sym (starts o) ∙ c .before .start .given .1)
+
+pub user-part-spec : {M : Type 1} → statement M
+user-part-spec =
+    tie.close
+    (tie.spec
+    (λ c κs. tt)
+    (λ c κs. tt)
+    (λ c. c .match .keys1)
+    (λ c. c .match .keys2)
+    (λ c. search needs)
+    (λ c. parts (c .before .before .before) _ (c .before .enum-told .given .1))
+    (λ c. inside c .0)
+    (λ c. omega (arith, inside c .0, inside c .1))
+    (λ c. omega (arith, inside c .0, inside c .1))
+    (λ c. parts (c .before .before .before .before) _ (c .before .before .start .given .1)))
