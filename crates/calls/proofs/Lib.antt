@@ -1,0 +1,4 @@
+pub mod FeedLaws
+pub mod TableLaws
+pub mod Determined
+mod Examples
