@@ -1,0 +1,192 @@
+-- The five kinds that are held, kind by kind: what a picture and a taken message leave of each, and that their answers are told apart.
+-- Assumes nothing.
+use Prim.Native.Nat.{ℕ, _≤_}
+use native.Mathlib.Omega.{arith}
+use mathlib.Core.Path.{_≡_, refl, sym, ap, _∙_}
+use mathlib.Core.Logic.{_≢_}
+use lib.Dec.{eqb}
+use Rattle.reader.specs.Listed.{Record, zeros, number}
+use Rattle.reader.specs.Answer.{messageOf, made}
+use Rattle.reader.specs.declared.kind.Kind.{Kind}
+use Rattle.reader.specs.declared.kind.Kind.the-variants as kinds
+use Rattle.reader.specs.declared.answer.Answer.{Answer}
+use Rattle.reader.specs.declared.answer.Message.{Message}
+use Rattle.reader.specs.declared.answer.Message.the-variants as message
+use Rattle.reader.specs.declared.answer.Outcome.the-variants.{Taken}
+use Rattle.format.specs.Syntax.{if_then_else_}
+use Rattle.slots.specs.Held.{
+  nothing,
+  kept,
+  noFramePacking,
+  noOrientation,
+  noEquirectangular,
+  noRotation,
+  noPacking,
+  keptFramePacking,
+  keptOrientation,
+  keptEquirectangular,
+  keptRotation,
+  keptPacking,
+  takenFramePacking,
+  takenOrientation,
+  takenEquirectangular,
+  takenRotation,
+  takenPacking,
+  withFramePacking,
+  withOrientation,
+  withEquirectangular,
+  withRotation,
+  withRegions,
+}
+use Rattle.slots.specs.declared.held.HeldFramePacking.{HeldFramePacking}
+use Rattle.slots.specs.declared.held.HeldOrientation.{HeldOrientation}
+use Rattle.slots.specs.declared.held.HeldEquirectangular.{HeldEquirectangular}
+use Rattle.slots.specs.declared.held.HeldRotation.{HeldRotation}
+use Rattle.slots.specs.declared.held.HeldPacking.{HeldPacking}
+use Rattle.slots.specs.declared.held.Held.{Held}
+use Rattle.calls.specs.Feed.{heldAfter}
+use Rattle.calls.proofs.FeedLaws.{if-ap, Unheld, alpha, depth, registered, unregistered}
+use Rattle.isolation.specs.Lasting.{Lasting, framePacking, orientation, equirectangular, rotation, regionWise, kindOf, cancelOf, persistenceOf, Marked, heldOf}
+
+-- ---- what is held of each
+
+abbrev pub none : (k : Lasting) → Marked (Record (kindOf k))
+none k = record { on = 0; value = zeros (kindOf k) }
+
+pub nothing-of : (k : Lasting) → heldOf k nothing ≡ none k
+unfolding nothing noFramePacking noOrientation noEquirectangular noRotation noPacking
+nothing-of framePacking = refl
+nothing-of orientation = refl
+nothing-of equirectangular = refl
+nothing-of rotation = refl
+nothing-of regionWise = refl
+
+-- a mark and a record, of each kind's own type
+abbrev marked45 : HeldFramePacking → Marked (Record kinds.FramePacking)
+marked45 x = record { on = x .on; value = x .value }
+
+abbrev marked47 : HeldOrientation → Marked (Record kinds.Orientation)
+marked47 x = record { on = x .on; value = x .value }
+
+abbrev marked150 : HeldEquirectangular → Marked (Record kinds.Equirectangular)
+marked150 x = record { on = x .on; value = x .value }
+
+abbrev marked154 : HeldRotation → Marked (Record kinds.Rotation)
+marked154 x = record { on = x .on; value = x .value }
+
+abbrev marked155 : HeldPacking → Marked (Record kinds.RegionWise)
+marked155 x = record { on = x .on; value = x .value }
+
+pub kept-of : (k : Lasting) (h : Held) → heldOf k (kept h) ≡ (if eqb (persistenceOf k (heldOf k h .value)) 0 then none k else heldOf k h)
+unfolding kept keptFramePacking keptOrientation keptEquirectangular keptRotation keptPacking noFramePacking noOrientation noEquirectangular noRotation noPacking
+kept-of framePacking h = if-ap marked45 (eqb (h .«frame_packing» .value .layout .persistence) 0) noFramePacking (h .«frame_packing»)
+kept-of orientation h = if-ap marked47 (eqb (h .orientation .value .persistence) 0) noOrientation (h .orientation)
+kept-of equirectangular h = if-ap marked150 (eqb (h .equirectangular .value .persistence) 0) noEquirectangular (h .equirectangular)
+kept-of rotation h = if-ap marked154 (eqb (h .rotation .value .persistence) 0) noRotation (h .rotation)
+kept-of regionWise h = if-ap marked155 (eqb (h .regions .value .persistence) 0) noPacking (h .regions)
+
+pub taken-of : (k : Lasting) (h : Held) (a : Record (kindOf k)) (e : ℕ)
+    → heldOf k (heldAfter h (made (kindOf k) Taken a e)) ≡ (if eqb (cancelOf k a) 0 then record { on = 1; value = a } else none k)
+unfolding heldAfter withFramePacking withOrientation withEquirectangular withRotation withRegions takenFramePacking takenOrientation takenEquirectangular takenRotation takenPacking noFramePacking noOrientation noEquirectangular noRotation noPacking
+taken-of framePacking h a e = if-ap marked45 (eqb (a .cancel) 0) (record { on = 1; value = a }) noFramePacking
+taken-of orientation h a e = if-ap marked47 (eqb (a .cancel) 0) (record { on = 1; value = a }) noOrientation
+taken-of equirectangular h a e = if-ap marked150 (eqb (a .cancel) 0) (record { on = 1; value = a }) noEquirectangular
+taken-of rotation h a e = if-ap marked154 (eqb (a .cancel) 0) (record { on = 1; value = a }) noRotation
+taken-of regionWise h a e = if-ap marked155 (eqb (a .cancel) 0) (record { on = 1; value = a }) noPacking
+
+-- a message of one kind leaves the others
+pub other-of : (k j : Lasting) (h : Held) (a : Record (kindOf j)) (e : ℕ) → k ≢ j → heldOf k (heldAfter h (made (kindOf j) Taken a e)) ≡ heldOf k h
+unfolding heldAfter withFramePacking withOrientation withEquirectangular withRotation withRegions
+other-of framePacking framePacking h a e d = absurd (d refl)
+other-of framePacking orientation h a e d = refl
+other-of framePacking equirectangular h a e d = refl
+other-of framePacking rotation h a e d = refl
+other-of framePacking regionWise h a e d = refl
+other-of orientation framePacking h a e d = refl
+other-of orientation orientation h a e d = absurd (d refl)
+other-of orientation equirectangular h a e d = refl
+other-of orientation rotation h a e d = refl
+other-of orientation regionWise h a e d = refl
+other-of equirectangular framePacking h a e d = refl
+other-of equirectangular orientation h a e d = refl
+other-of equirectangular equirectangular h a e d = absurd (d refl)
+other-of equirectangular rotation h a e d = refl
+other-of equirectangular regionWise h a e d = refl
+other-of rotation framePacking h a e d = refl
+other-of rotation orientation h a e d = refl
+other-of rotation equirectangular h a e d = refl
+other-of rotation rotation h a e d = absurd (d refl)
+other-of rotation regionWise h a e d = refl
+other-of regionWise framePacking h a e d = refl
+other-of regionWise orientation h a e d = refl
+other-of regionWise equirectangular h a e d = refl
+other-of regionWise rotation h a e d = refl
+other-of regionWise regionWise h a e d = absurd (d refl)
+
+-- ---- an answer has one kind, and one record
+
+abbrev tag : Message → ℕ
+tag message.Nothing = 0
+tag (message.FramePacking a) = 45
+tag (message.Orientation a) = 47
+tag (message.Equirectangular a) = 150
+tag (message.Rotation a) = 154
+tag message.RegionWise = 155
+tag (message.Alpha a) = 165
+tag message.Depth = 177
+tag (message.Registered a) = 4
+tag message.Unregistered = 5
+
+tag-of : (k : Kind) (a : Record k) → tag (messageOf k a) ≡ number k
+tag-of kinds.FramePacking a = refl
+tag-of kinds.Orientation a = refl
+tag-of kinds.Equirectangular a = refl
+tag-of kinds.Rotation a = refl
+tag-of kinds.RegionWise a = refl
+tag-of kinds.Alpha a = refl
+tag-of kinds.Depth a = refl
+tag-of kinds.Registered a = refl
+tag-of kinds.Unregistered a = refl
+
+pub same-number : (k j : Kind) (a : Record k) (b : Record j) (e f : ℕ) → made k Taken a e ≡ made j Taken b f → number k ≡ number j
+same-number k j a b e f h = sym (tag-of k a) ∙ ap (λ (x : Answer). tag (x .message)) h ∙ tag-of j b
+
+-- numbers tell the five apart ..
+abbrev numbered : ℕ → Lasting
+numbered n =
+    if eqb n 45 then framePacking
+    else if eqb n 47 then orientation
+    else if eqb n 150 then equirectangular
+    else if eqb n 154 then rotation
+    else regionWise
+
+numbered-of : (k : Lasting) → numbered (number (kindOf k)) ≡ k
+numbered-of framePacking = refl
+numbered-of orientation = refl
+numbered-of equirectangular = refl
+numbered-of rotation = refl
+numbered-of regionWise = refl
+
+pub same-kind : (k j : Lasting) → number (kindOf k) ≡ number (kindOf j) → k ≡ j
+same-kind k j e = sym (numbered-of k) ∙ ap numbered e ∙ numbered-of j
+
+-- .. and from the four that are not held
+among : (k : Lasting) → (45 ≤ number (kindOf k)) × (number (kindOf k) ≤ 155)
+among framePacking = (omega arith, omega arith)
+among orientation = (omega arith, omega arith)
+among equirectangular = (omega arith, omega arith)
+among rotation = (omega arith, omega arith)
+among regionWise = (omega arith, omega arith)
+
+pub unheld-apart : (j : Kind) → Unheld j → (k : Lasting) → number j ≢ number (kindOf k)
+unheld-apart j alpha k e = omega (arith, among k .1)
+unheld-apart j depth k e = omega (arith, among k .1)
+unheld-apart j registered k e = omega (arith, among k .0)
+unheld-apart j unregistered k e = omega (arith, among k .0)
+
+pub same-value : (k : Lasting) (a b : Record (kindOf k)) (e f : ℕ) → made (kindOf k) Taken a e ≡ made (kindOf k) Taken b f → a ≡ b
+same-value framePacking a b e f h = let m : message.FramePacking a ≡ message.FramePacking b = ap (λ (x : Answer). x .message) h in cc
+same-value orientation a b e f h = let m : message.Orientation a ≡ message.Orientation b = ap (λ (x : Answer). x .message) h in cc
+same-value equirectangular a b e f h = let m : message.Equirectangular a ≡ message.Equirectangular b = ap (λ (x : Answer). x .message) h in cc
+same-value rotation a b e f h = let m : message.Rotation a ≡ message.Rotation b = ap (λ (x : Answer). x .message) h in cc
+same-value regionWise a b e f h = ap (λ (x : Answer). x .regions) h

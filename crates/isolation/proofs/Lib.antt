@@ -1,0 +1,8 @@
+pub mod OneCall
+pub mod PairLaws
+pub mod Isolation
+pub mod HeldKinds
+pub mod Persistence
+pub mod HeldMessages
+pub mod Tied
+mod Examples

@@ -1,0 +1,132 @@
+-- Calls that make a pair leave a slot the same and, but for the extension's length, are answered the same.
+-- Assumes nothing.
+use Prim.Native.Nat.{ℕ, _≤_}
+use native.Mathlib.Omega.{arith}
+use mathlib.Core.Path.{_≡_, refl, sym, ap, _∙_, subst}
+use mathlib.Core.Logic.{_↔_, _⊎_, inl, inr}
+use mathlib.Core.Bool.{Bool, true, false}
+use mathlib.Core.List.{List, _++_}
+use lib.ListN.{length, take}
+use Rattle.bits.specs.Refusals.{bySlot}
+use Rattle.bits.specs.Bits.{bitsOf}
+use Rattle.format.specs.Whole.{Reading, taken, setAside, refused, given, whole, Follows}
+use Rattle.format.proofs.Whole.{whole-holds, varied-whole}
+use Rattle.rows.specs.Rows.{refuses}
+use Rattle.reader.specs.Listed.{Record, form, named}
+use Rattle.reader.specs.Answer.{numberOf, answerFor}
+use Rattle.reader.specs.Reader.{readingOf, answerTo}
+use Rattle.reader.specs.declared.kind.Kind.{Kind}
+use Rattle.reader.specs.declared.answer.Answer.{Answer}
+use Rattle.reader.specs.declared.kind.Named.the-variants.{Listed}
+use Rattle.reader.proofs.Demand2.{taken-when, aside-when}
+use Rattle.reader.proofs.Numbers as numbers
+use Rattle.reader.proofs.Numbers.{numberIn, call, number-0, number-20}
+use Rattle.reader.proofs.Order.{to-payload}
+use Rattle.reader.proofs.Local.{local}
+use Rattle.format.specs.Syntax.{if_then_else_}
+use Rattle.slots.specs.Slots.{isOpen, holding}
+use Rattle.slots.specs.declared.held.Held.{Held}
+use Rattle.slots.specs.declared.Slot.{Slot}
+use Rattle.calls.specs.Feed.{heldAfter, shutAnswer}
+use Rattle.calls.specs.Table.{tableOfHeld}
+use Rattle.isolation.specs.Runs.{Call, Reply, read, tabled, turn, ends, replies, unextended, blind, blinds}
+use Rattle.isolation.specs.Pairs.{Message, Varied, Pair, same, cut, varied, lent, Pairs, end, both}
+
+-- ---- which payloads vary: exactly those answered 0 or 20
+
+number-in : (k : Kind) (x : Reading (Record k)) → numberOf (answerFor k x) ≡ numberIn x
+number-in k (taken a e) = refl
+number-in k (setAside a e) = refl
+number-in k (refused r) = refl
+
+module _ (kind size : ℕ) (bytes : List ℕ) (k : Kind) (listed : named kind ≡ Listed k) where
+  abbrev number : ℕ
+  number = numberOf (answerTo kind size bytes)
+
+  within : size ≤ 8192 → size ≤ length bytes → number ≡ numberIn (readingOf k (take size bytes))
+  within b c = ap numberOf (to-payload kind size bytes k listed b c) ∙ number-in k (readingOf k (take size bytes))
+
+  message-of : size ≤ 8192 → size ≤ length bytes → (number ≡ 0) ⊎ (number ≡ 20) → Message k size bytes
+  message-of b c (inl z) =
+      let r = number-0 (readingOf k (take size bytes)) .0 (sym (within b c) ∙ z) in
+      record { limit = b; long = c; value = r .0; extension = r .1; holds = taken-when k (take size bytes) (r .0) (r .1) .0 (r .2) .0 }
+  message-of b c (inr z) =
+      let r = number-20 (readingOf k (take size bytes)) .0 (sym (within b c) ∙ z) in
+      record { limit = b; long = c; value = r .0; extension = r .1; holds = aside-when k (take size bytes) (r .0) (r .1) .0 (r .2) .0 }
+
+  pub vary-iff : ((number ≡ 0) ⊎ (number ≡ 20)) ↔ Message k size bytes
+  vary-iff = (λ z. to z (call kind size bytes), back)
+    where
+      not-either : {i : ℕ} → number ≡ i → 1 ≤ i → i ≤ 2 → (number ≡ 0) ⊎ (number ≡ 20) → ⊥
+      not-either e l m (inl z) = omega arith
+      not-either e l m (inr z) = omega arith
+
+      to : (number ≡ 0) ⊎ (number ≡ 20) → numbers.Call kind size bytes → Message k size bytes
+      to z (numbers.unlisted e m) = absurd (not-either m (omega arith) (omega arith) z)
+      to z (numbers.oversized j e c m) = absurd (not-either m (omega arith) (omega arith) z)
+      to z (numbers.payload j e b c m) = message-of b c z
+
+      back : Message k size bytes → (number ≡ 0) ⊎ (number ≡ 20)
+      back d = go (form k .aside (d .value)) refl
+        where
+          go : (t : Bool) → form k .aside (d .value) ≡ t → (number ≡ 0) ⊎ (number ≡ 20)
+          go true t = inr (within (d .limit) (d .long) ∙ ap numberIn (aside-when k (take size bytes) (d .value) (d .extension) .1 (d .holds, t)))
+          go false t = inl (within (d .limit) (d .long) ∙ ap numberIn (taken-when k (take size bytes) (d .value) (d .extension) .1 (d .holds, t)))
+
+-- ---- the answers
+
+same-but-extension : (k : Kind) (b : Bool) (a : Record k) (e e′ : ℕ) → unextended (answerFor k (given b a e)) ≡ unextended (answerFor k (given b a e′))
+same-but-extension k true a e e′ = refl
+same-but-extension k false a e e′ = refl
+
+varied-answer : (kind size : ℕ) (bytes : List ℕ) (size′ : ℕ) (bytes′ : List ℕ) → Varied kind size bytes size′ bytes′
+    → unextended (answerTo kind size bytes) ≡ unextended (answerTo kind size′ bytes′)
+unfolding readingOf
+varied-answer kind size bytes size′ bytes′ v =
+    ap unextended (to-payload kind size bytes k (v .listed) (v .first .limit) (v .first .long))
+    ∙ ap (λ x. unextended (answerFor k x)) (whole-holds (form k) (bitsOf (take size bytes)) (v .first .value) (v .first .extension) (v .first .holds))
+    ∙ same-but-extension k (form k .aside (v .first .value)) (v .first .value) (v .first .extension) (v .extension′)
+    ∙ sym
+    (ap unextended (to-payload kind size′ bytes′ k (v .listed) (v .limit′) (v .long′))
+    ∙ ap (λ x. unextended (answerFor k x)) (ap (whole (form k)) (v .split′) ∙ again))
+  where
+    k : Kind
+    k = v .k
+
+    again : whole (form k) (v .message′ ++ v .rest′) ≡ given (form k .aside (v .first .value)) (v .first .value) (v .extension′)
+    again =
+        varied-whole (form k) (bitsOf (take size bytes)) (v .first .value) (v .first .extension) (v .first .holds) (v .message′) (v .rest′) (v .extension′) (v .varies)
+        (subst (λ b. Follows b (v .rest′) (v .extension′)) (sym (v .tailed)) (v .follows′))
+
+-- ---- one call
+
+-- what a turn leaves and, but for the extension's length, answers
+abbrev pub Like : Slot × Reply → Slot × Reply → Type 0
+Like w v = (w .0 ≡ v .0) × (blind (w .1) ≡ blind (v .1))
+
+-- the extension's length leaves no trace
+held-unextended : (h : Held) (a : Answer) → heldAfter h (unextended a) ≡ heldAfter h a
+unfolding heldAfter
+held-unextended h a = refl
+
+like-feed : (x : Slot) (kind : ℕ) (a b : Answer) → unextended a ≡ unextended b → (t : Bool)
+    → Like (if t then (holding x (heldAfter (x .held) a), read a) else (x, read (shutAnswer kind)))
+    (if t then (holding x (heldAfter (x .held) b), read b) else (x, read (shutAnswer kind)))
+like-feed x kind a b e true =
+    (ap (holding x) (sym (held-unextended (x .held) a) ∙ ap (heldAfter (x .held)) e ∙ held-unextended (x .held) b), ap read e)
+like-feed x kind a b e false = (refl, refl)
+
+pub like : {c d : Call} → Pair c d → (x : Slot) → Like (turn x c) (turn x d)
+like (same c) x = (refl, refl)
+like (cut n kind size bytes bytes′ l l′ e) x = like-feed x kind _ _ (ap unextended (local kind size bytes bytes′ l l′ e)) (isOpen x)
+like (varied n kind size bytes size′ bytes′ v) x = like-feed x kind _ _ (varied-answer kind size bytes size′ bytes′ v) (isOpen x)
+like (lent n rows rows′ e) x = (refl, ap (λ m. tabled (if isOpen x then tableOfHeld (x .held) m else refuses bySlot)) e)
+
+-- ---- any number of them
+
+pub like-run : {cs ds : List Call} → Pairs cs ds → (x : Slot) → (blinds (replies x cs) ≡ blinds (replies x ds)) × (ends x cs ≡ ends x ds)
+like-run end x = (refl, refl)
+like-run (both {c} {d} {cs} {ds} p ps) x =
+    let w = like p x in
+    let r = like-run ps (turn x c .0) in
+    (rw (r .0, w .0, w .1), rw (r .1, w .0))
