@@ -3,7 +3,6 @@
 use Prim.Native.Nat.{ℕ}
 use mathlib.Core.Path.{_≡_, refl}
 use mathlib.Core.List.{List, [], _∷_}
-use lib.ListN.{replicate}
 use Rattle.bits.specs.Bits.{bitAt, part, from, number}
 use Rattle.bits.specs.Elements.{uFront, ueAfter}
 use Rattle.bits.specs.Tail.{lastOne, tailOf}
@@ -17,7 +16,7 @@ use Rattle.regions.specs.Bands.{noGuardBands}
 use Rattle.format.specs.Syntax.{padded}
 use Rattle.regions.specs.Region.{most, noRegion}
 use Rattle.regions.specs.declared.Packing.{Packing}
-use Rattle.rows.specs.Rows.{rowsOf, rowCount, tableOf, refuses, outcome, wrote}
+use Rattle.rows.specs.Rows.{rowsOf, rowCount, tableOf, refuses}
 use Rattle.rows.specs.declared.Tabled.the-variants.{Rows}
 use Rattle.reader.specs.Listed.{named}
 use Rattle.reader.specs.Answer.{plain, made, refusedAs}

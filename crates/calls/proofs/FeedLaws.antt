@@ -1,19 +1,18 @@
 -- What the layers above know of a feed: its answer, what it leaves at its slot, that it leaves the others, where it is refused with 8,
 -- and that what is refused, set aside or of a kind that is not held changes no slot.
 -- Assumes nothing.
-use Prim.Native.Nat.{ℕ, _≤_}
+use Prim.Native.Nat.{ℕ}
 use native.Mathlib.Omega.{arith}
 use mathlib.Core.Path.{_≡_, refl, sym, ap, _∙_}
-use mathlib.Core.Logic.{_≢_, _↔_, _⊎_, inl, inr}
+use mathlib.Core.Logic.{_≢_, _↔_, inl, inr}
 use mathlib.Core.Bool.{Bool, true, false}
 use mathlib.Core.List.{List}
 use lib.ListN.{take}
 use lib.Seq.{set-getD}
 use Rattle.bits.specs.Refusals as refusals
-use Rattle.bits.specs.Refusals.{bySlot}
 use Rattle.bits.specs.Bits.{bitsOf}
 use Rattle.bits.specs.declared.refusal.Refusal.{Refusal}
-use Rattle.format.specs.Whole.{Reading, taken, setAside, refused, given}
+use Rattle.format.specs.Whole.{Reading, taken, setAside, refused}
 use Rattle.format.proofs.Whole as whole
 use Rattle.reader.specs.Listed.{Record, form, named}
 use Rattle.reader.specs.Answer.{numberOf, answerFor}

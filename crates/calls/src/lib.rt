@@ -1,7 +1,6 @@
 // The calls that use a reader: a payload goes into a slot, and a region table comes out of one. The other calls are those of
 // crate slots.
 use bits::refusal::Refusal;
-use frame_packing::FramePacking;
 use reader::answer::Answer;
 use reader::answer::Message;
 use reader::answer::Outcome;
@@ -136,7 +135,7 @@ pub fn table_of(held: Held, lent: &mut [u64]) -> Tabled
     rows::write(packing, split, lent)
 }
 
-// A refusal writes nothing, and rows past the table's stay.
+// A refusal writes nothing, and the numbers past the rows stay.
 pub fn table(slots: Slots, n: u64, lent: &mut [u64]) -> Tabled
     ensures { λ r. ⌜ outcome r (now (lent .exit)) ≡ wrote (tableIn slots n (length (now (lent .entry)))) (now (lent .entry)) ⌝ }
 {
