@@ -1,1 +1,4 @@
+pub mod RowLaws
+pub mod Filled
+pub mod Outcomes
 pub mod Determined
