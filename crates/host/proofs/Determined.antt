@@ -14,6 +14,8 @@ use Rattle.host.proofs.bruskelde_read.Kinds as read-kinds
 use Rattle.host.proofs.bruskelde_read.Reads as read-reads
 use Rattle.host.proofs.bruskelde_fields.Kinds as fields-kinds
 use Rattle.host.proofs.bruskelde_fields.Reads as fields-reads
+use Rattle.host.proofs.bruskelde_part.Kinds as part-kinds
+use Rattle.host.proofs.bruskelde_part.Reads as part-reads
 use Rattle.host.proofs.fields.frame_packing.Kinds as frame-packing-kinds
 use Rattle.host.proofs.fields.frame_packing.Reads as frame-packing-reads
 use Rattle.host.proofs.fields.orientation.Kinds as orientation-kinds
@@ -74,6 +76,9 @@ row κs s = now (s .1 .1 .1 .0)
 
 pub fields-determined : DeterminesAll 2 fields-kinds.ps fields-kinds.r row fields-reads.Post
 fields-determined κs a x y s t p q = let e = p ∙ sym q in (ap (λ (o : Written). o .number) e, ap (λ (o : Written). o .row) e)
+
+pub part-determined : Determines 1 part-kinds.ps part-kinds.r part-reads.Post
+part-determined κs a x y s t p q = p ∙ sym q
 
 -- ---- what they are made of
 
