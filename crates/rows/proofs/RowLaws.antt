@@ -16,7 +16,7 @@ use Rattle.rows.specs.declared.Tabled.the-variants.{Rows, Refused}
 use Rattle.rows.specs.Rows.{row, rowsBy, noShift, twiceOf, fitted, outcome, wrote}
 
 -- two runs, one after the other, are one
-sets-append : (xs ys l : List ℕ) (i : ℕ) → sets l i (xs ++ ys) ≡ sets (sets l i xs) (i + length xs) ys
+pub sets-append : (xs ys l : List ℕ) (i : ℕ) → sets l i (xs ++ ys) ≡ sets (sets l i xs) (i + length xs) ys
 sets-append [] ys l i = rw add-zero
 sets-append (x ∷ xs) ys l i =
     let e : suc i + length xs ≡ i + suc (length xs) = omega arith in

@@ -1,0 +1,30 @@
+-- `host::row::hand` meets its contract: the room is judged before anything is written.
+-- Assumes nothing.
+use Prim.Native.Nat.{_≤_, _<_}
+use native.Mathlib.Omega.{arith}
+use borrow.Author.Needs.{needs}
+use lib.ListN.{length}
+use Rattle.host.proofs.RowLaws.{few, fitting}
+use Rattle.host.proofs.row.hand.Statement.{statement}
+use Rattle.host.proofs.row.hand.Tie as tie
+
+returns : tie.Need-returns
+returns c =
+    let args = c .before .before .before .args in
+    let short : length (args .row .now) < length (args .fields .now) = omega arith in
+    few (args .number) (args .fields .now) (args .row .now) short
+
+returns-2 : tie.Need-returns-2
+returns-2 c =
+    let args = c .before .before .before .before .before .before .before .args in
+    let long : length (args .fields .now) ≤ length (args .row .now) = omega arith in
+    rw (c .before .before .put .ensures) (fitting (args .number) (args .fields .now) (args .row .now) long)
+
+pub hand-spec : {M : Type 1} → statement M
+hand-spec =
+    tie.close
+    (tie.spec
+    returns
+    (λ c κs. search needs)
+    (λ c. search needs)
+    returns-2)

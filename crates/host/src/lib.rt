@@ -1,0 +1,63 @@
+// What a C player calls. A slice is a pointer and then a length; host/bruskelde.h has the C declarations.
+pub mod fields;
+pub mod handing;
+pub mod row;
+
+use crate::handing::hand_out;
+use reader::answer::Outcome;
+use reader::payload::read;
+use reader::user::Start;
+ghost use mathlib.Core.Path.{_≡_};
+ghost use Rattle.reader.specs.Answer.{numberOf};
+ghost use Rattle.reader.specs.Reader.{answerTo};
+ghost use Rattle.host.specs.Fields.{written, wrote};
+ghost use Rattle.host.specs.Part.{partOf};
+
+// The number of the answer, for any kind, size and bytes.
+#[no_mangle]
+pub extern "C" fn bruskelde_read(kind: u64, size: u64, bytes: &[u8]) -> u32
+    ensures { λ r. ⌜ r ≡ numberOf (answerTo kind size (now (bytes .entry))) ⌝ }
+{
+    read(kind, size, bytes).number()
+}
+
+// The same, and the fields of what was taken or set aside, written over the front of the row; 10 where they do not fit.
+#[no_mangle]
+pub extern "C" fn bruskelde_fields(kind: u64, size: u64, bytes: &[u8], row: &mut [u64]) -> u32
+    ensures { λ r. ⌜ written r (now (row .exit)) ≡ wrote (answerTo kind size (now (bytes .entry))) (now (row .entry)) ⌝ }
+{
+    let a = read(kind, size, bytes);
+    let number = a.number();
+    let outcome = a.outcome;
+    match outcome {
+        Outcome::Taken => hand_out(row, number, a),
+        Outcome::SetAside => hand_out(row, number, a),
+        Outcome::Refused(_) => number,
+    }
+}
+
+// A part of the lent bytes, by its first byte and how many there are.
+#[repr(C)]
+pub struct Part {
+    pub offset: u64,
+    pub length: u64,
+}
+
+// "the rest is handed back as that part of the caller's bytes": of a taken payload of kind 4 or 5, and nothing at 0 of any other.
+#[no_mangle]
+pub extern "C" fn bruskelde_part(kind: u64, size: u64, bytes: &[u8]) -> Part
+    ensures { λ r. ⌜ r ≡ partOf kind size (now (bytes .entry)) ⌝ }
+{
+    let start = Start::of(read(kind, size, bytes));
+    let Start::At(at) = start else {
+        return Part {
+            offset: 0,
+            length: 0,
+        };
+    };
+    let offset = at as u64;
+    Part {
+        offset,
+        length: size - offset,
+    }
+}

@@ -1,0 +1,165 @@
+/*
+ * Bruskelde: a reader of video side messages (SEI, H.274), called from C.
+ *
+ * Link with the archive that `rt staticlib host` writes, target/staticlib/libhost.a.
+ *
+ * The functions keep nothing between calls, allocate nothing and may be called from any thread. They take any kind, any size and any
+ * bytes. What the caller has to see to is only what C always asks of it: that `bytes` and `row` point to as many elements as the
+ * length after them says, that they do not overlap, and that no other thread changes them during the call. A length of 0 may come
+ * with a null pointer.
+ *
+ * This file is kept by hand: the declarations are those of crates/host/src/lib.rt, and the layouts those of
+ * crates/host/specs/Fields.antt, which the functions are proved to follow.
+ */
+#ifndef BRUSKELDE_H
+#define BRUSKELDE_H
+
+#include <stddef.h>
+#include <stdint.h>
+
+#ifdef __cplusplus
+extern "C" {
+#endif
+
+/* The kinds of message. */
+enum {
+    BRUSKELDE_REGISTERED = 4,       /* user data registered by T.35 */
+    BRUSKELDE_UNREGISTERED = 5,     /* unregistered user data */
+    BRUSKELDE_FRAME_PACKING = 45,
+    BRUSKELDE_ORIENTATION = 47,
+    BRUSKELDE_EQUIRECTANGULAR = 150,
+    BRUSKELDE_ROTATION = 154,
+    BRUSKELDE_REGION_WISE = 155,
+    BRUSKELDE_ALPHA = 165,
+    BRUSKELDE_DEPTH = 177
+};
+
+/* The numbers that a call answers. Where more than one fits, the order is 1, 2; then 3 to 6 at the first element where one arises; then
+ * 7; then 20; and last 10. */
+enum {
+    BRUSKELDE_TAKEN = 0,
+    BRUSKELDE_KIND = 1,             /* the kind is none of the nine above */
+    BRUSKELDE_SIZE = 2,             /* the size exceeds 8192 or the lent length */
+    BRUSKELDE_SHORT = 3,            /* the next element needs a bit past the payload's end */
+    BRUSKELDE_ZEROS = 4,            /* an exp-Golomb number has a 32nd leading zero */
+    BRUSKELDE_RULE = 5,             /* a field's value breaks a rule */
+    BRUSKELDE_REGIONS = 6,          /* kind 155 with more than 16 regions */
+    BRUSKELDE_TAIL = 7,             /* what follows the message is no permitted tail */
+    BRUSKELDE_ROW = 10,             /* bruskelde_fields: the row is too short */
+    BRUSKELDE_SET_ASIDE = 20        /* kind 45, a message that is whole and is not to be used */
+};
+
+/*
+ * Reads the first `size` of the `length` bytes as a payload of `kind`, and answers the number.
+ */
+uint32_t bruskelde_read(uint64_t kind, uint64_t size, const uint8_t *bytes, size_t length);
+
+/*
+ * Reads likewise, and hands out the record as numbers.
+ *
+ * Where the payload is taken (0) or set aside (20), row[0] is the count of extension bits in the payload's tail, and the record's
+ * fields follow, in the order below; numbers past them stay as they were. Where the row is shorter than that, the answer is 10 in place
+ * of 0 or 20. With 10, and with any other number, nothing is written.
+ *
+ * A field that the message does not carry is 0, and so is each list entry past its count. A flag is 0 or 1.
+ */
+uint32_t bruskelde_fields(uint64_t kind, uint64_t size, const uint8_t *bytes, size_t length, uint64_t *row, size_t row_length);
+
+/* How many numbers a row of each kind needs, the extension count included. BRUSKELDE_ROW_MOST is enough for any. */
+enum {
+    BRUSKELDE_ROW_REGISTERED = 3,
+    BRUSKELDE_ROW_UNREGISTERED = 17,
+    BRUSKELDE_ROW_FRAME_PACKING = 18,
+    BRUSKELDE_ROW_ORIENTATION = 4,
+    BRUSKELDE_ROW_EQUIRECTANGULAR = 7,
+    BRUSKELDE_ROW_ROTATION = 9,
+    BRUSKELDE_ROW_REGION_WISE = 313,
+    BRUSKELDE_ROW_ALPHA = 9,
+    BRUSKELDE_ROW_DEPTH = 95,
+    BRUSKELDE_ROW_MOST = 313
+};
+
+/*
+ * row[0] is the extension count for every kind. Then:
+ *
+ * 45, frame packing
+ *      1  id                               9  current frame is frame 0
+ *      2  cancel                          10  frame 0 self contained
+ *      3  type                            11  frame 1 self contained
+ *      4  quincunx                        12  frame 0 grid position x
+ *      5  content interpretation          13  frame 0 grid position y
+ *      6  spatial flipping                14  frame 1 grid position x
+ *      7  frame 0 flipped                 15  frame 1 grid position y
+ *      8  field views                     16  persistence
+ *                                         17  upsampled aspect ratio
+ *   Grid positions are in sixteenths of a sample from the upper left corner.
+ *
+ * 47, orientation
+ *      1  cancel      2  persistence      3  transform type
+ *
+ * 150, equirectangular
+ *      1  cancel      2  persistence      3  guard flag
+ *      4  guard type, 0 to 3              5  left width      6  right width
+ *
+ * 154, sphere rotation
+ *      1  cancel      2  persistence
+ *      3, 4, 5  yaw, pitch, roll as coded, in 1/65536 of a degree: 32 bits in two's complement, so (int32_t)(uint32_t)row[3]
+ *      6, 7, 8  the same in degrees, each as the 64 bits of a double: copy row[6] to a double by memcpy
+ *
+ * 155, region-wise packing
+ *      1  cancel      2  persistence      3  matching flag      4  how many regions, 0 to 16
+ *      5  projected picture width         6  projected picture height
+ *      7  packed picture width            8  packed picture height
+ *   and region i, of 16, from 9 + 19 * i on:
+ *     +0  transform type                 +10  guard band left width
+ *     +1  guard flag                     +11  guard band right width
+ *     +2  projected width                +12  guard band top height
+ *     +3  projected height               +13  guard band bottom height
+ *     +4  projected top                  +14  guard bands not used for prediction
+ *     +5  projected left                 +15 to +18  guard band types 0 to 3
+ *     +6  packed width
+ *     +7  packed height
+ *     +8  packed top
+ *     +9  packed left
+ *
+ * 165, alpha
+ *      1  cancel                           5  opaque value
+ *      2  use                              6  increment flag
+ *      3  bit depth minus 8                7  clip flag
+ *      4  transparent value                8  clip type flag
+ *
+ * 177, depth
+ *      1  z near flag                      4  d max flag
+ *      2  z far flag                       5  representation type
+ *      3  d min flag                       6  reference view
+ *   then z near from 7, z far from 13, d min from 19 and d max from 25 on, each:
+ *     +0  sign        +1  exponent        +2  mantissa length less one        +3  mantissa
+ *     +4  0 where it is absent, 1 where it is unspecified, 2 where it is a number
+ *     +5  the 64 bits of the number as a double; 0 where there is none
+ *     31  how many numbers the list has, 0 to 63
+ *     32 to 94  the list
+ *
+ * 4, registered user data
+ *      1  country code      2  the byte after the country code 255
+ *
+ * 5, unregistered user data
+ *      1 to 16  the identifier's bytes
+ */
+
+/* A part of the lent bytes: bytes[offset] to bytes[offset + length - 1]. */
+struct bruskelde_part {
+    uint64_t offset;
+    uint64_t length;
+};
+
+/*
+ * What follows the head of a payload of kind 4 or 5: from there to the payload's end, possibly nothing. It lies within the first `size`
+ * bytes. For a payload that bruskelde_read does not answer with 0, and for any other kind, offset and length are 0.
+ */
+struct bruskelde_part bruskelde_part(uint64_t kind, uint64_t size, const uint8_t *bytes, size_t length);
+
+#ifdef __cplusplus
+}
+#endif
+
+#endif
