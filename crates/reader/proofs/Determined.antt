@@ -44,8 +44,6 @@ use Rattle.reader.proofs.message.registered.Kinds as registered-kinds
 use Rattle.reader.proofs.message.registered.Reads as registered-reads
 use Rattle.reader.proofs.message.unregistered.Kinds as unregistered-kinds
 use Rattle.reader.proofs.message.unregistered.Reads as unregistered-reads
-use Rattle.reader.proofs.payload.of_kind.Kinds as of-kind-kinds
-use Rattle.reader.proofs.payload.of_kind.Reads as of-kind-reads
 use Rattle.reader.proofs.payload.read.Kinds as read-kinds
 use Rattle.reader.proofs.payload.read.Reads as read-reads
 use Rattle.reader.proofs.user.Start.registered.Kinds as start-registered-kinds
@@ -113,9 +111,6 @@ registered-determined κs a x y s t p q = p ∙ sym q
 
 pub unregistered-determined : Determines 1 unregistered-kinds.ps unregistered-kinds.r unregistered-reads.Post
 unregistered-determined κs a x y s t p q = p ∙ sym q
-
-pub of-kind-determined : Determines 1 of-kind-kinds.ps of-kind-kinds.r of-kind-reads.Post
-of-kind-determined κs a x y s t p q = p ∙ sym q
 
 pub read-determined : Determines 1 read-kinds.ps read-kinds.r read-reads.Post
 read-determined κs a x y s t p q = p ∙ sym q

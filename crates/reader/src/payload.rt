@@ -12,7 +12,7 @@ ghost use Rattle.reader.specs.Answer.{answerFor};
 ghost use Rattle.reader.specs.Reader.{readingOf, answerTo};
 
 // The payload s of a listed kind.
-pub fn of_kind(kind: Kind, s: &[u8]) -> Answer
+fn of_kind(kind: Kind, s: &[u8]) -> Answer
     requires { ⌜ Payload (now s) ⌝ }
     ensures { λ r. ⌜ r ≡ answerFor kind (readingOf kind (now (s .entry))) ⌝ }
 {
