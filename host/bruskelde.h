@@ -34,8 +34,8 @@ enum {
     BRUSKELDE_DEPTH = 177
 };
 
-/* The numbers that a call answers. Where more than one fits, the order is 1, 2; then 3 to 6 at the first element where one arises; then
- * 7; then 20; and last 10. */
+/* The numbers that a call answers. Where more than one fits, the order is 8, 1, 2; then 3 to 6 at the first element where one arises;
+ * then 7; then 20; and last 10. bruskelde_table: 8, 9, 10. */
 enum {
     BRUSKELDE_TAKEN = 0,
     BRUSKELDE_KIND = 1,             /* the kind is none of the nine above */
@@ -45,7 +45,9 @@ enum {
     BRUSKELDE_RULE = 5,             /* a field's value breaks a rule */
     BRUSKELDE_REGIONS = 6,          /* kind 155 with more than 16 regions */
     BRUSKELDE_TAIL = 7,             /* what follows the message is no permitted tail */
-    BRUSKELDE_ROW = 10,             /* bruskelde_fields: the row is too short */
+    BRUSKELDE_SLOT = 8,             /* no such slot, or, except for opening, the slot is closed */
+    BRUSKELDE_TABLE = 9,            /* bruskelde_table: no region table can be made of what the slot holds */
+    BRUSKELDE_ROOM = 10,            /* bruskelde_fields, bruskelde_table: what is lent is too short */
     BRUSKELDE_SET_ASIDE = 20        /* kind 45, a message that is whole and is not to be used */
 };
 
@@ -157,6 +159,239 @@ struct bruskelde_part {
  * bytes. For a payload that bruskelde_read does not answer with 0, and for any other kind, offset and length are 0.
  */
 struct bruskelde_part bruskelde_part(uint64_t kind, uint64_t size, const uint8_t *bytes, size_t length);
+
+/*
+ * ---- The slots
+ *
+ * Eight slots, together one value that the player owns: a call takes them and answers with them as it leaves them. There is nothing to
+ * free, and any number of such values live side by side. Start from bruskelde_start(); but any value is harmless, also one that no
+ * call made.
+ *
+ *      struct bruskelde_slots slots = bruskelde_start();
+ *      struct bruskelde_called opened = bruskelde_open(slots, 3);
+ *      slots = opened.slots;
+ *
+ * A call that answers another number than 0 leaves all eight as they were.
+ */
+
+/* Kind 45. Fields that it does not carry are 0, here and below. */
+struct bruskelde_flags {
+    uint8_t spatial_flipping;
+    uint8_t frame0_flipped;
+    uint8_t field_views;
+    uint8_t current_is_frame0;
+    uint8_t frame0_self_contained;
+    uint8_t frame1_self_contained;
+};
+
+struct bruskelde_grid { /* in sixteenths of a sample from the upper left corner */
+    uint8_t frame0_x;
+    uint8_t frame0_y;
+    uint8_t frame1_x;
+    uint8_t frame1_y;
+};
+
+struct bruskelde_layout {
+    uint8_t arrangement_type; /* 3 side by side, 4 top and bottom, 5 one frame after the other */
+    uint8_t quincunx;
+    uint8_t content_interpretation; /* 0 unspecified, 1 frame 0 is the left eye, 2 frame 0 is the right eye */
+    struct bruskelde_flags flags;
+    struct bruskelde_grid grid;
+    uint8_t persistence;
+};
+
+struct bruskelde_frame_packing {
+    uint32_t id;
+    uint8_t cancel;
+    struct bruskelde_layout layout;
+    uint8_t upsampled_aspect_ratio;
+};
+
+/* Kind 47. */
+struct bruskelde_orientation {
+    uint8_t cancel;
+    uint8_t persistence;
+    uint8_t transform;
+};
+
+/* Kind 150. */
+struct bruskelde_equirectangular {
+    uint8_t cancel;
+    uint8_t persistence;
+    uint8_t guarded;
+    uint8_t guard_type; /* 0 to 3 */
+    uint8_t left_width;
+    uint8_t right_width;
+};
+
+/* Kind 154. */
+struct bruskelde_degrees {
+    double yaw;
+    double pitch;
+    double roll;
+};
+
+struct bruskelde_rotation {
+    uint8_t cancel;
+    uint8_t persistence;
+    int32_t yaw; /* as coded, in 1/65536 of a degree */
+    int32_t pitch;
+    int32_t roll;
+    struct bruskelde_degrees degrees;
+};
+
+/* Kind 155. */
+struct bruskelde_projected_area {
+    uint32_t width;
+    uint32_t height;
+    uint32_t top;
+    uint32_t left;
+};
+
+struct bruskelde_packed_area {
+    uint16_t width;
+    uint16_t height;
+    uint16_t top;
+    uint16_t left;
+};
+
+struct bruskelde_guard_types {
+    uint8_t type0;
+    uint8_t type1;
+    uint8_t type2;
+    uint8_t type3;
+};
+
+struct bruskelde_guard_bands {
+    uint8_t left_width;
+    uint8_t right_width;
+    uint8_t top_height;
+    uint8_t bottom_height;
+    uint8_t not_used; /* not used for prediction */
+    struct bruskelde_guard_types types;
+};
+
+struct bruskelde_region {
+    uint8_t transform;
+    uint8_t guarded;
+    struct bruskelde_projected_area projected;
+    struct bruskelde_packed_area packed;
+    struct bruskelde_guard_bands guard;
+};
+
+enum { BRUSKELDE_MOST_REGIONS = 16, BRUSKELDE_SLOTS = 8, BRUSKELDE_TABLE_ROW = 9 };
+
+struct bruskelde_packing {
+    uint8_t cancel;
+    uint8_t persistence;
+    uint8_t matching;
+    uint8_t count; /* of the regions that follow; those past it are zeros */
+    uint32_t projected_width;
+    uint32_t projected_height;
+    uint16_t packed_width;
+    uint16_t packed_height;
+    struct bruskelde_region regions[BRUSKELDE_MOST_REGIONS];
+};
+
+/* What a slot holds: of each kind a record where `on` is 1, and nothing where it is 0. A record of zeros is a message too: look at
+ * `on`. */
+struct bruskelde_held_frame_packing {
+    uint8_t on;
+    struct bruskelde_frame_packing value;
+};
+
+struct bruskelde_held_orientation {
+    uint8_t on;
+    struct bruskelde_orientation value;
+};
+
+struct bruskelde_held_equirectangular {
+    uint8_t on;
+    struct bruskelde_equirectangular value;
+};
+
+struct bruskelde_held_rotation {
+    uint8_t on;
+    struct bruskelde_rotation value;
+};
+
+struct bruskelde_held_packing {
+    uint8_t on;
+    struct bruskelde_packing value;
+};
+
+struct bruskelde_held {
+    struct bruskelde_held_frame_packing frame_packing;
+    struct bruskelde_held_orientation orientation;
+    struct bruskelde_held_equirectangular equirectangular;
+    struct bruskelde_held_rotation rotation;
+    struct bruskelde_held_packing regions;
+};
+
+struct bruskelde_slot {
+    uint8_t open; /* 1 where it is open; any other number is closed */
+    struct bruskelde_held held;
+};
+
+struct bruskelde_slots {
+    struct bruskelde_slot slots[BRUSKELDE_SLOTS];
+};
+
+/* Eight closed slots. */
+struct bruskelde_slots bruskelde_start(void);
+
+/* The number, and the slots after the call. */
+struct bruskelde_called {
+    uint32_t number;
+    struct bruskelde_slots slots;
+};
+
+/* Opens a slot, closed or open: it holds nothing. Do this whenever a slot passes to another camera. */
+struct bruskelde_called bruskelde_open(struct bruskelde_slots slots, uint64_t slot);
+
+/* Closes a slot and clears it. */
+struct bruskelde_called bruskelde_close(struct bruskelde_slots slots, uint64_t slot);
+
+/* A coded video sequence begins: the slot holds nothing. */
+struct bruskelde_called bruskelde_sequence(struct bruskelde_slots slots, uint64_t slot);
+
+/* The number, the count of extension bits in the payload's tail (0 without one, and with a refusal), and the slots after the call. */
+struct bruskelde_fed {
+    uint32_t number;
+    uint32_t extension;
+    struct bruskelde_slots slots;
+};
+
+/*
+ * Feeds a payload to a slot: reads it as bruskelde_read does, and, where it is taken, the slot holds a message of kind 45, 47, 150, 154
+ * or 155 in place of the one before; a cancel leaves nothing of its kind. The other kinds are read and not held. What the payload says
+ * is what bruskelde_fields hands out for the same bytes.
+ */
+struct bruskelde_fed bruskelde_feed(struct bruskelde_slots slots, uint64_t slot, uint64_t kind, uint64_t size, const uint8_t *bytes,
+                                    size_t length);
+
+/* The number, the five held records as they were at the picture, and the slots after it. */
+struct bruskelde_pictured {
+    uint32_t number;
+    struct bruskelde_held held;
+    struct bruskelde_slots slots;
+};
+
+/* A picture is shown: answers what the slot holds, and then drops each record whose persistence flag is 0. */
+struct bruskelde_pictured bruskelde_picture(struct bruskelde_slots slots, uint64_t slot);
+
+/* The number, and how many rows were written. */
+struct bruskelde_tabled {
+    uint32_t number;
+    uint32_t rows;
+};
+
+/*
+ * The region table of what the slot holds, in rows of nine numbers: projected left, top, width, height, packed left, top, width, height,
+ * transform. One row a region, and with the matching flag as many again for the second eye. `length` counts numbers, not rows: 288 are
+ * enough for any table. Numbers past the rows stay, and with a refusal all do.
+ */
+struct bruskelde_tabled bruskelde_table(struct bruskelde_slots slots, uint64_t slot, uint64_t *rows, size_t length);
 
 #ifdef __cplusplus
 }

@@ -13,6 +13,7 @@ ghost use Rattle.equirectangular.specs.Equirectangular.{zeros, equirecta
 
 pub mod band;
 
+#[repr(C)]
 pub struct Equirectangular {
     pub cancel: u8,
     pub persistence: u8,

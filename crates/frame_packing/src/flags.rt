@@ -10,6 +10,7 @@ ghost use Rattle.format.specs.Format.{runAt};
 ghost use Rattle.frame_packing.specs.FramePacking.{noFlags, sixFlags};
 ghost use Rattle.frame_packing.specs.Answers.{flagsAnswer};
 
+#[repr(C)]
 pub struct Flags {
     pub spatial_flipping: u8,
     pub frame0_flipped: u8,

@@ -12,6 +12,7 @@ ghost use Rattle.frame_packing.specs.FramePacking.{noGrid, gridCoded, gr
 ghost use Rattle.frame_packing.specs.Answers.{gridAnswer};
 
 // As coded, in sixteenths of a sample from the upper left corner.
+#[repr(C)]
 pub struct Grid {
     pub frame0_x: u8,
     pub frame0_y: u8,

@@ -18,6 +18,7 @@ ghost use Rattle.format.specs.Syntax.{if_then_else_};
 ghost use Rattle.frame_packing.specs.FramePacking.{noLayout, arrangement};
 ghost use Rattle.frame_packing.specs.Answers.{layoutAnswer};
 
+#[repr(C)]
 pub struct Layout {
     pub arrangement_type: u8,
     pub quincunx: u8,

@@ -20,6 +20,7 @@ ghost use Rattle.format.specs.Format.{runAt};
 ghost use Rattle.frame_packing.specs.FramePacking.{zeros, framePacking};
 ghost use Rattle.frame_packing.specs.Answers.{answer};
 
+#[repr(C)]
 pub struct FramePacking {
     pub id: u32,
     pub cancel: u8,

@@ -1,16 +1,12 @@
-// What a C player calls. A slice is a pointer and then a length; host/bruskelde.h has the C declarations.
-pub mod fields;
-pub mod handing;
-pub mod row;
+// What a C player calls to read a payload. A slice is a pointer and then a length; host/bruskelde.h has the C declarations.
+pub mod slot;
 
-use crate::handing::hand_out;
-use reader::answer::Outcome;
 use reader::payload::read;
 use reader::user::Start;
 ghost use mathlib.Core.Path.{_≡_};
 ghost use Rattle.reader.specs.Answer.{numberOf};
 ghost use Rattle.reader.specs.Reader.{answerTo};
-ghost use Rattle.host.specs.Fields.{written, wrote};
+ghost use Rattle.fields.specs.Fields.{written, wrote};
 ghost use Rattle.host.specs.Part.{partOf};
 
 // The number of the answer, for any kind, size and bytes.
@@ -26,14 +22,8 @@ pub extern "C" fn bruskelde_read(kind: u64, size: u64, bytes: &[u8]) -> u32
 pub extern "C" fn bruskelde_fields(kind: u64, size: u64, bytes: &[u8], row: &mut [u64]) -> u32
     ensures { λ r. ⌜ written r (now (row .exit)) ≡ wrote (answerTo kind size (now (bytes .entry))) (now (row .entry)) ⌝ }
 {
-    let a = read(kind, size, bytes);
-    let number = a.number();
-    let outcome = a.outcome;
-    match outcome {
-        Outcome::Taken => hand_out(row, number, a),
-        Outcome::SetAside => hand_out(row, number, a),
-        Outcome::Refused(_) => number,
-    }
+    let answer = read(kind, size, bytes);
+    fields::write(answer, row)
 }
 
 // A part of the lent bytes, by its first byte and how many there are.

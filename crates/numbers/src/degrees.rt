@@ -4,6 +4,7 @@ ghost use lib.Ieee.{binary64, ofBits};
 ghost use Rattle.numbers.specs.Degrees.{degreeBits, degreesOf, noDegrees};
 
 // The rotation in degrees.
+#[repr(C)]
 pub struct Degrees {
     pub yaw: f64,
     pub pitch: f64,

@@ -9,6 +9,7 @@ ghost use Rattle.bits.specs.Out.{refusalIn};
 ghost use Rattle.format.specs.Format.{runAt};
 ghost use Rattle.orientation.specs.Orientation.{zeros, orientation, answer};
 
+#[repr(C)]
 pub struct Orientation {
     pub cancel: u8,
     pub persistence: u8,

@@ -12,6 +12,7 @@ ghost use Rattle.format.specs.Format.{runAt};
 ghost use Rattle.regions.specs.Bands.{guardTypes, guardBands, bandsWhere, noGuardTypes, noGuardBands, typesAnswer, bandsAnswer};
 
 // Reserved types, 4 to 7, are 0 here.
+#[repr(C)]
 pub struct GuardTypes {
     pub type0: u8,
     pub type1: u8,
@@ -82,6 +83,7 @@ pub fn read_types(s: &[u8], c: Cursor, not_used: u8) -> TypesRead
     )
 }
 
+#[repr(C)]
 pub struct GuardBands {
     pub left_width: u8,
     pub right_width: u8,

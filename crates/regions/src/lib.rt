@@ -26,6 +26,7 @@ ghost use Rattle.regions.specs.Packing.{packing, cancelled, zeros, packi
 // The most regions that a message may have: refusal 6 starts above it.
 pub const MOST: usize = 16;
 
+#[repr(C)]
 pub struct Packing {
     pub cancel: u8,
     pub persistence: u8,

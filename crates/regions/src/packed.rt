@@ -9,6 +9,7 @@ ghost use Rattle.bits.specs.Out.{refusalIn};
 ghost use Rattle.format.specs.Format.{runAt};
 ghost use Rattle.regions.specs.Packed.{packedArea, noPackedArea, packedAnswer};
 
+#[repr(C)]
 pub struct PackedArea {
     pub width: u16,
     pub height: u16,

@@ -9,6 +9,7 @@ ghost use Rattle.bits.specs.Out.{refusalIn};
 ghost use Rattle.format.specs.Format.{runAt};
 ghost use Rattle.regions.specs.Projected.{projectedArea, noProjectedArea, projectedAnswer};
 
+#[repr(C)]
 pub struct ProjectedArea {
     pub width: u32,
     pub height: u32,

@@ -21,6 +21,7 @@ ghost use Rattle.bits.specs.Out.{refusalIn};
 ghost use Rattle.format.specs.Format.{runAt};
 ghost use Rattle.regions.specs.Region.{most, region, regions as regionsOf, noRegion, noRegions, regionAnswer, regionsRead};
 
+#[repr(C)]
 pub struct Region {
     pub transform: u8,
     // 1 where the region has guard bands.

@@ -24,6 +24,7 @@ const PITCH_LEAST: i32 = -5_898_240;
 
 const PITCH_MOST: i32 = 5_898_240;
 
+#[repr(C)]
 pub struct Rotation {
     pub cancel: u8,
     pub persistence: u8,

@@ -32,6 +32,7 @@ ghost use Rattle.slots.specs.Held.{
 };
 
 // on is 1 where a record is held, here and below. A record of zeros is a message too, so nothing has a mark of its own.
+#[repr(C)]
 pub struct HeldFramePacking {
     pub on: u8,
     pub value: FramePacking,
@@ -64,6 +65,7 @@ impl HeldFramePacking {
     }
 }
 
+#[repr(C)]
 pub struct HeldOrientation {
     pub on: u8,
     pub value: Orientation,
@@ -96,6 +98,7 @@ impl HeldOrientation {
     }
 }
 
+#[repr(C)]
 pub struct HeldEquirectangular {
     pub on: u8,
     pub value: Equirectangular,
@@ -128,6 +131,7 @@ impl HeldEquirectangular {
     }
 }
 
+#[repr(C)]
 pub struct HeldRotation {
     pub on: u8,
     pub value: Rotation,
@@ -160,6 +164,7 @@ impl HeldRotation {
     }
 }
 
+#[repr(C)]
 pub struct HeldPacking {
     pub on: u8,
     pub value: Packing,
@@ -192,6 +197,7 @@ impl HeldPacking {
     }
 }
 
+#[repr(C)]
 pub struct Held {
     pub frame_packing: HeldFramePacking,
     pub orientation: HeldOrientation,

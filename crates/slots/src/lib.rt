@@ -40,6 +40,7 @@ impl Answer {
 }
 
 // open is 1 where the slot is open, and any other number is closed.
+#[repr(C)]
 pub struct Slot {
     pub open: u8,
     pub held: Held,
@@ -76,6 +77,7 @@ impl Slot {
     }
 }
 
+#[repr(C)]
 pub struct Slots {
     pub slots: [Slot; 8],
 }

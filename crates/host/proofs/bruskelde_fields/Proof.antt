@@ -1,42 +1,18 @@
--- `host::bruskelde_fields` meets its contract: what is refused is not handed out.
+-- `host::bruskelde_fields` meets its contract.
 -- Assumes nothing.
+use mathlib.Core.Path.{ap, _∙_}
+use denote.Ref.{now}
 use borrow.Author.Needs.{needs}
-use Rattle.host.proofs.Outcomes.{by-taken, by-aside, by-refused}
+use Rattle.reader.specs.declared.answer.Answer.{Answer}
+use Rattle.fields.specs.Fields.{wrote}
 use Rattle.host.proofs.bruskelde_fields.Statement.{statement}
 use Rattle.host.proofs.bruskelde_fields.Tie as tie
 
 returns : tie.Need-returns
 returns c =
     let out = c .before .before in
-    let told = out .before .before in
-    let number = told .before .before in
-    by-taken _ _ _ _ (number .before .read .ensures) (number .number .ensures) (told .enum-told .given .1) (out .hand-out .ensures)
-
-returns-2 : tie.Need-returns-2
-returns-2 c =
-    let out = c .before .before in
-    let told = out .before .before in
-    let number = told .before .before in
-    by-aside _ _ _ _ (number .before .read .ensures) (number .number .ensures) (told .enum-told2 .given .1) (out .hand-out2 .ensures)
-
-returns-3 : tie.Need-returns-3
-returns-3 c =
-    let number = c .before .before in
-    by-refused _ _ _ _ (number .before .read .ensures) (number .number .ensures) (c .enum-told3 .given .1)
+    let start = out .before .before .before .before .before .args in
+    out .write .ensures ∙ ap (λ (a : Answer). wrote a (now (start .row))) (out .before .before .read .ensures)
 
 pub bruskelde-fields-spec : {M : Type 1} → statement M
-bruskelde-fields-spec =
-    tie.close
-    (tie.spec
-    (λ c κs. tt)
-    (λ c κs. tt)
-    (λ c. search needs)
-    (λ c κs. tt)
-    (λ c. search needs)
-    (λ c κs. tt)
-    (λ c. search needs)
-    (λ c. search needs)
-    returns
-    (λ c. search needs)
-    returns-2
-    returns-3)
+bruskelde-fields-spec = tie.close (tie.spec (λ c κs. tt) (λ c κs. tt) (λ c. search needs) returns)

@@ -1,0 +1,5 @@
+pub mod RowLaws
+pub mod Filled
+pub mod Outcomes
+pub mod Examples
+pub mod Determined

@@ -1,0 +1,26 @@
+-- `fields::record::unregistered` meets its contract: the extension count and the identifier fill the row.
+-- Assumes nothing.
+use mathlib.Core.Path.{_≡_}
+use borrow.Author.Needs.{needs}
+use lib.ListN.{length}
+use Rattle.fields.proofs.Filled.{identifier-filled}
+use Rattle.fields.proofs.record.unregistered.Statement.{statement}
+use Rattle.fields.proofs.record.unregistered.Tie as tie
+
+sixteen : (c : tie.Start) → length (c .args .a .identifier) ≡ 16
+sixteen c = search needs
+
+returns : tie.Need-returns
+returns c =
+    let put = c .before in
+    let start = put .before .before .before in
+    identifier-filled (start .args .extension) (start .args .a .identifier) _ (sixteen start) (put .put-identifier .ensures)
+
+pub unregistered-spec : {M : Type 1} → statement M
+unregistered-spec =
+    tie.close
+    (tie.spec
+    (λ c. search needs)
+    (λ c. search needs)
+    (λ c κs. search needs)
+    returns)

@@ -1,0 +1,65 @@
+// The lent row: the room is judged first, and then the numbers are written over its front.
+use bits::refusal::Refusal;
+ghost use mathlib.Core.Path.{_≡_};
+ghost use Prim.Native.Nat.{_+_, _≤_};
+ghost use lib.ListN.{length};
+ghost use lib.Seq.{sets};
+ghost use Rattle.fields.specs.Fields.{written, handed};
+
+// The numbers `from`, at `at` and after it.
+pub fn put(row: &mut [u64], at: usize, from: &[u64])
+    requires { ⌜ at + length (now from) ≤ length (now row) ⌝ }
+    ensures { λ _. ⌜ now (row .exit) ≡ sets (now (row .entry)) at (now (from .entry)) ⌝ }
+{
+    let mut j = 0;
+    while j < from.len() {
+        row[at + j] = from[j];
+        j += 1;
+    }
+}
+
+// The same of narrower numbers: the identifier of kind 5, and the list of kind 177.
+pub fn put_identifier(row: &mut [u64], at: usize, from: [u8; 16])
+    requires { ⌜ at + 16 ≤ length (now row) ⌝ }
+    ensures { λ _. ⌜ now (row .exit) ≡ sets (now (row .entry)) at from ⌝ }
+{
+    let mut j = 0;
+    while j < 16 {
+        row[at + j] = byte(from[j]);
+        j += 1;
+    }
+}
+
+pub fn put_model(row: &mut [u64], at: usize, from: [u16; 63])
+    requires { ⌜ at + 63 ≤ length (now row) ⌝ }
+    ensures { λ _. ⌜ now (row .exit) ≡ sets (now (row .entry)) at from ⌝ }
+{
+    let mut j = 0;
+    while j < 63 {
+        row[at + j] = word(from[j]);
+        j += 1;
+    }
+}
+
+pub fn byte(x: u8) -> u64
+    ensures { λ r. ⌜ r ≡ x ⌝ }
+{
+    x as u64
+}
+
+pub fn word(x: u16) -> u64
+    ensures { λ r. ⌜ r ≡ x ⌝ }
+{
+    x as u64
+}
+
+// The fields, all or none: the number is then 10.
+pub fn hand(row: &mut [u64], number: u32, fields: &[u64]) -> u32
+    ensures { λ r. ⌜ written r (now (row .exit)) ≡ handed number (now (fields .entry)) (now (row .entry)) ⌝ }
+{
+    if row.len() < fields.len() {
+        return Refusal::rows().number();
+    }
+    put(row, 0, fields);
+    number
+}
