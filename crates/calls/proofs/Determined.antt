@@ -9,29 +9,15 @@ use denote.Triple.Clauses.{AtExit}
 use borrow.Fn.Kinds.{endedOf}
 use Rattle.bits.proofs.Determined.{Determines, DeterminesAll}
 use Rattle.rows.specs.Rows.{Outcome}
-use Rattle.calls.proofs.held_after.Kinds as held-after-kinds
-use Rattle.calls.proofs.held_after.Reads as held-after-reads
 use Rattle.calls.proofs.feed.Kinds as feed-kinds
 use Rattle.calls.proofs.feed.Reads as feed-reads
-use Rattle.calls.proofs.table_of.Kinds as table-of-kinds
-use Rattle.calls.proofs.table_of.Reads as table-of-reads
 use Rattle.calls.proofs.table.Kinds as table-kinds
 use Rattle.calls.proofs.table.Reads as table-reads
-
-pub held-after-determined : Determines 0 held-after-kinds.ps held-after-kinds.r held-after-reads.Post
-held-after-determined κs a x y s t p q = p ∙ sym q
 
 pub feed-determined : Determines 1 feed-kinds.ps feed-kinds.r feed-reads.Post
 feed-determined κs a x y s t p q = p ∙ sym q
 
--- the second parameter, at exit
-abbrev pub lent-of : (κs : Lfts 1) → AtExit (endedOf 1 table-of-kinds.ps table-of-kinds.r) κs → List ℕ
-lent-of κs s = now (s .1 .0)
-
-pub table-of-determined : DeterminesAll 1 table-of-kinds.ps table-of-kinds.r lent-of table-of-reads.Post
-table-of-determined κs a x y s t p q = let e = p ∙ sym q in (ap (λ (o : Outcome). o .answer) e, ap (λ (o : Outcome). o .lent) e)
-
--- the third
+-- the third parameter, at exit
 abbrev pub lent : (κs : Lfts 1) → AtExit (endedOf 1 table-kinds.ps table-kinds.r) κs → List ℕ
 lent κs s = now (s .1 .1 .0)
 

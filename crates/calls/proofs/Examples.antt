@@ -18,13 +18,13 @@ use Rattle.regions.specs.Region.{most, noRegion}
 use Rattle.regions.specs.declared.Packing.{Packing}
 use Rattle.rows.specs.Rows.{rowsOf, rowCount, tableOf, refuses}
 use Rattle.rows.specs.declared.Tabled.the-variants.{Rows}
-use Rattle.reader.specs.Listed.{named}
-use Rattle.reader.specs.Answer.{plain, made, refusedAs}
-use Rattle.reader.specs.Reader.{readingOf, answerTo}
-use Rattle.reader.specs.declared.kind.Kind.the-variants as kinds
-use Rattle.reader.specs.declared.answer.Outcome.the-variants.{Taken, Refused}
-use Rattle.reader.specs.declared.answer.Message.the-variants.{Nothing}
-use Rattle.slots.specs.Held.{
+use Rattle.answers.specs.Listed.{named, readingOf}
+use Rattle.answers.specs.Answer.{plain, made, refusedAs}
+use Rattle.reader.specs.Reader.{answerTo}
+use Rattle.answers.specs.declared.kind.Kind.the-variants as kinds
+use Rattle.answers.specs.declared.Outcome.the-variants.{Taken, Refused}
+use Rattle.answers.specs.declared.Message.the-variants.{Nothing}
+use Rattle.held.specs.Held.{
   nothing,
   kept,
   noFramePacking,
@@ -41,7 +41,7 @@ use Rattle.slots.specs.Held.{
   withFramePacking,
 }
 use Rattle.slots.specs.Slots.{start, slotAt, withSlot, isOpen, holding, freshSlot, closedSlot, opened, pictured}
-use Rattle.slots.specs.declared.held.Held.{Held}
+use Rattle.held.specs.declared.Held.{Held}
 use Rattle.slots.specs.declared.Slots.{Slots}
 use Rattle.calls.specs.Feed.{heldAfter, shutAnswer, fedTo}
 use Rattle.calls.specs.Table.{splitOf, tableOfHeld, tableIn}

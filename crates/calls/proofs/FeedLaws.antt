@@ -14,21 +14,21 @@ use Rattle.bits.specs.Bits.{bitsOf}
 use Rattle.bits.specs.declared.refusal.Refusal.{Refusal}
 use Rattle.format.specs.Whole.{Reading, taken, setAside, refused}
 use Rattle.format.proofs.Whole as whole
-use Rattle.reader.specs.Listed.{Record, form, named}
-use Rattle.reader.specs.Answer.{numberOf, answerFor}
-use Rattle.reader.specs.Reader.{readingOf, sized, cut, answered, answerTo}
-use Rattle.reader.specs.declared.kind.Kind.{Kind}
-use Rattle.reader.specs.declared.kind.Kind.the-variants as kinds
-use Rattle.reader.specs.declared.kind.Named.{Named}
-use Rattle.reader.specs.declared.kind.Named.the-variants.{Listed, Unlisted}
-use Rattle.reader.specs.declared.answer.Answer.{Answer}
-use Rattle.reader.specs.declared.answer.Outcome.{Outcome}
-use Rattle.reader.specs.declared.answer.Outcome.the-variants.{Taken, SetAside, Refused}
+use Rattle.answers.specs.Listed.{Record, form, named, readingOf}
+use Rattle.answers.specs.Answer.{numberOf, answerFor}
+use Rattle.reader.specs.Reader.{sized, cut, answered, answerTo}
+use Rattle.answers.specs.declared.kind.Kind.{Kind}
+use Rattle.answers.specs.declared.kind.Kind.the-variants as kinds
+use Rattle.answers.specs.declared.kind.Named.{Named}
+use Rattle.answers.specs.declared.kind.Named.the-variants.{Listed, Unlisted}
+use Rattle.answers.specs.declared.Answer.{Answer}
+use Rattle.answers.specs.declared.Outcome.{Outcome}
+use Rattle.answers.specs.declared.Outcome.the-variants.{Taken, SetAside, Refused}
 use Rattle.reader.proofs.Demand2.{one-of, taken-when, aside-when, stopped-when, tail-when}
 use Rattle.reader.proofs.Numbers.{numberIn, Call, call, unlisted, oversized, payload}
 use Rattle.format.specs.Syntax.{if_then_else_}
 use Rattle.slots.specs.Slots.{Eight, slotAt, withSlot, isOpen, holding, replaced}
-use Rattle.slots.specs.declared.held.Held.{Held}
+use Rattle.held.specs.declared.Held.{Held}
 use Rattle.slots.specs.declared.Slot.{Slot}
 use Rattle.slots.specs.declared.Slots.{Slots}
 use Rattle.slots.proofs.Laws.{ButFor, Shut, shut-past, replaced-slots, replaced-there, replaced-but-for}

@@ -21,7 +21,7 @@ use Rattle.rows.specs.declared.Tabled.{Tabled}
 use Rattle.rows.specs.declared.Tabled.the-variants.{Rows, Refused}
 use Rattle.rows.proofs.TableLaws.{Countable, Uncountable, no-table, few-lent, enough-lent}
 use Rattle.slots.specs.Slots.{Eight, slotAt, isOpen}
-use Rattle.slots.specs.declared.held.Held.{Held}
+use Rattle.held.specs.declared.Held.{Held}
 use Rattle.slots.specs.declared.Slots.{Slots}
 use Rattle.slots.proofs.Laws.{Shut, shut-past}
 use Rattle.calls.specs.Table.{splitOf, tableBy, tableOfHeld, tableIn}

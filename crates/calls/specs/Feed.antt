@@ -3,20 +3,20 @@ use Prim.Native.Nat.{ℕ}
 use mathlib.Core.List.{List}
 use Rattle.bits.specs.Refusals.{bySlot}
 use Rattle.regions.specs.declared.Packing.{Packing}
-use Rattle.reader.specs.Listed.{named}
-use Rattle.reader.specs.Answer.{plain, refusedAs}
+use Rattle.answers.specs.Listed.{named}
+use Rattle.answers.specs.Answer.{plain, refusedAs}
 use Rattle.reader.specs.Reader.{answerTo}
-use Rattle.reader.specs.declared.kind.Named.{Named}
-use Rattle.reader.specs.declared.kind.Named.the-variants.{Listed, Unlisted}
-use Rattle.reader.specs.declared.answer.Answer.{Answer}
-use Rattle.reader.specs.declared.answer.Outcome.{Outcome}
-use Rattle.reader.specs.declared.answer.Outcome.the-variants.{Taken, SetAside, Refused}
-use Rattle.reader.specs.declared.answer.Message.{Message}
-use Rattle.reader.specs.declared.answer.Message.the-variants as message
+use Rattle.answers.specs.declared.kind.Named.{Named}
+use Rattle.answers.specs.declared.kind.Named.the-variants.{Listed, Unlisted}
+use Rattle.answers.specs.declared.Answer.{Answer}
+use Rattle.answers.specs.declared.Outcome.{Outcome}
+use Rattle.answers.specs.declared.Outcome.the-variants.{Taken, SetAside, Refused}
+use Rattle.answers.specs.declared.Message.{Message}
+use Rattle.answers.specs.declared.Message.the-variants as message
 use Rattle.format.specs.Syntax.{if_then_else_}
-use Rattle.slots.specs.Held.{withFramePacking, withOrientation, withEquirectangular, withRotation, withRegions}
+use Rattle.held.specs.Held.{withFramePacking, withOrientation, withEquirectangular, withRotation, withRegions}
 use Rattle.slots.specs.Slots.{slotAt, withSlot, isOpen, holding}
-use Rattle.slots.specs.declared.held.Held.{Held}
+use Rattle.held.specs.declared.Held.{Held}
 use Rattle.slots.specs.declared.Slots.{Slots}
 use Rattle.calls.specs.declared.Fed.{Fed}
 

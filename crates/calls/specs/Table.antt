@@ -7,8 +7,8 @@ use Rattle.rows.specs.Rows.{Table, refuses, tableOf}
 use Rattle.rows.specs.declared.Split.the-variants.{Whole, Beside, Below}
 use Rattle.format.specs.Syntax.{if_then_else_}
 use Rattle.slots.specs.Slots.{slotAt, isOpen}
-use Rattle.slots.specs.declared.held.Held.{Held}
-use Rattle.slots.specs.declared.held.HeldFramePacking.{HeldFramePacking}
+use Rattle.held.specs.declared.Held.{Held}
+use Rattle.held.specs.declared.HeldFramePacking.{HeldFramePacking}
 use Rattle.slots.specs.declared.Slots.{Slots}
 use Rattle.calls.specs.declared.Way.{Way}
 use Rattle.calls.specs.declared.Way.the-variants.{By, Missing}

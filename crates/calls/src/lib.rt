@@ -1,17 +1,17 @@
 // The calls that use a reader: a payload goes into a slot, and a region table comes out of one. The other calls are those of
 // crate slots.
+use answers::Answer;
+use answers::Message;
+use answers::Outcome;
+use answers::kind::Named;
 use bits::refusal::Refusal;
-use reader::answer::Answer;
-use reader::answer::Message;
-use reader::answer::Outcome;
-use reader::kind::Named;
+use held::Held;
+use held::HeldFramePacking;
 use reader::payload;
 use regions::Packing;
 use rows::Split;
 use rows::Tabled;
 use slots::Slots;
-use slots::held::Held;
-use slots::held::HeldFramePacking;
 ghost use mathlib.Core.Path.{_≡_};
 ghost use lib.ListN.{length};
 ghost use Rattle.rows.specs.Rows.{outcome, wrote};
@@ -39,7 +39,7 @@ fn held_with(held: Held, message: Message, regions: Packing) -> Held
 }
 
 // What an answer leaves of them: only a taken message changes them.
-pub fn held_after(held: Held, answer: Answer) -> Held
+fn held_after(held: Held, answer: Answer) -> Held
     ensures { λ r. ⌜ r ≡ heldAfter held answer ⌝ }
 {
     let outcome = answer.outcome;
@@ -119,7 +119,7 @@ fn split_of(matching: u8, packing: HeldFramePacking) -> Way
 }
 
 // The table of what is held.
-pub fn table_of(held: Held, lent: &mut [u64]) -> Tabled
+fn table_of(held: Held, lent: &mut [u64]) -> Tabled
     ensures { λ r. ⌜ outcome r (now (lent .exit)) ≡ wrote (tableOfHeld held (length (now (lent .entry)))) (now (lent .entry)) ⌝ }
 {
     let regions = held.regions;

@@ -15,8 +15,8 @@ use Rattle.frame_packing.specs.FramePacking.{sixFlags, gridPositions, arrangeme
 use Rattle.frame_packing.specs.SetAside.{reservedId, reservedType, reservedInterpretation, setAside}
 use Rattle.orientation.specs.Orientation.{orientation}
 use Rattle.rotation.specs.Rotation.{angleIn, rotation}
-use Rattle.reader.specs.Listed.{named}
-use Rattle.reader.specs.Reader.{readingOf, answerTo}
+use Rattle.answers.specs.Listed.{named, readingOf}
+use Rattle.reader.specs.Reader.{answerTo}
 use Rattle.fields.specs.Fields.{Written, written, wrote, handed, fieldsOf}
 
 -- a payload of a kind, and a row of n numbers 7

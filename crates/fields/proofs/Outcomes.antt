@@ -4,11 +4,11 @@ use Prim.Native.Nat.{ℕ}
 use mathlib.Core.Path.{_≡_, sym, ap, _∙_}
 use mathlib.Core.List.{List, _∷_}
 use Rattle.bits.specs.declared.refusal.Refusal.{Refusal}
-use Rattle.reader.specs.Answer.{numberOf}
-use Rattle.reader.specs.declared.answer.Answer.{Answer}
-use Rattle.reader.specs.declared.answer.Outcome.{Outcome}
-use Rattle.reader.specs.declared.answer.Outcome.the-variants.{Taken, SetAside, Refused}
-use Rattle.reader.specs.declared.answer.Message.{Message}
+use Rattle.answers.specs.Answer.{numberOf}
+use Rattle.answers.specs.declared.Answer.{Answer}
+use Rattle.answers.specs.declared.Outcome.{Outcome}
+use Rattle.answers.specs.declared.Outcome.the-variants.{Taken, SetAside, Refused}
+use Rattle.answers.specs.declared.Message.{Message}
 use Rattle.fields.specs.Fields.{Written, recordFields, fieldsOf, written, handed, wroteBy, wrote}
 
 -- xs are the fields of a, whose message is m

@@ -20,12 +20,12 @@ use Rattle.numbers.specs.Degrees.{degreeBits}
 use Rattle.numbers.specs.Depth.{codedBits}
 use Rattle.numbers.specs.declared.depth.DepthNumber.{DepthNumber}
 use Rattle.numbers.specs.declared.depth.DepthNumber.the-variants.{Absent, Unspecified, Number}
-use Rattle.reader.specs.Answer.{numberOf}
-use Rattle.reader.specs.declared.answer.Answer.{Answer}
-use Rattle.reader.specs.declared.answer.Outcome.{Outcome}
-use Rattle.reader.specs.declared.answer.Outcome.the-variants.{Taken, SetAside, Refused}
-use Rattle.reader.specs.declared.answer.Message.{Message}
-use Rattle.reader.specs.declared.answer.Message.the-variants as message
+use Rattle.answers.specs.Answer.{numberOf}
+use Rattle.answers.specs.declared.Answer.{Answer}
+use Rattle.answers.specs.declared.Outcome.{Outcome}
+use Rattle.answers.specs.declared.Outcome.the-variants.{Taken, SetAside, Refused}
+use Rattle.answers.specs.declared.Message.{Message}
+use Rattle.answers.specs.declared.Message.the-variants as message
 
 -- ---- one layout a kind
 

@@ -1,8 +1,8 @@
 // An answer's fields, handed out to a lent row.
 use crate::record;
 use crate::row::hand;
-use reader::answer::Answer;
-use reader::answer::Message;
+use answers::Answer;
+use answers::Message;
 ghost use mathlib.Core.Path.{_≡_};
 ghost use Rattle.fields.specs.Fields.{written, handed, fieldsOf};
 

@@ -4,8 +4,8 @@ mod record;
 mod row;
 
 use crate::handing::hand_out;
-use reader::answer::Answer;
-use reader::answer::Outcome;
+use answers::Answer;
+use answers::Outcome;
 ghost use mathlib.Core.Path.{_≡_};
 ghost use Rattle.fields.specs.Fields.{written, wrote};
 

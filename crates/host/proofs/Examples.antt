@@ -7,8 +7,8 @@ use Rattle.bits.specs.Elements.{uFront}
 use Rattle.format.specs.Format.{elementFront, run}
 use Rattle.format.specs.Whole.{whole}
 use Rattle.user_data.specs.Registered.{registered}
-use Rattle.reader.specs.Listed.{named}
-use Rattle.reader.specs.Reader.{readingOf, answerTo}
+use Rattle.answers.specs.Listed.{named, readingOf}
+use Rattle.reader.specs.Reader.{answerTo}
 use Rattle.host.specs.Part.{partOf}
 
 -- the country code 255 has one more byte

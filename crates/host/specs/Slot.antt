@@ -2,7 +2,7 @@
 use Prim.Native.Nat.{ℕ}
 use mathlib.Core.List.{List}
 use Rattle.bits.specs.Refusals as refusals
-use Rattle.reader.specs.Answer.{numberOf}
+use Rattle.answers.specs.Answer.{numberOf}
 use Rattle.slots.specs.Slots.{answerNumber}
 use Rattle.slots.specs.declared.Called as slots-called
 use Rattle.slots.specs.declared.Pictured as slots-pictured

@@ -4,7 +4,7 @@ pub mod slot;
 use reader::payload::read;
 use reader::user::Start;
 ghost use mathlib.Core.Path.{_≡_};
-ghost use Rattle.reader.specs.Answer.{numberOf};
+ghost use Rattle.answers.specs.Answer.{numberOf};
 ghost use Rattle.reader.specs.Reader.{answerTo};
 ghost use Rattle.fields.specs.Fields.{written, wrote};
 ghost use Rattle.host.specs.Part.{partOf};

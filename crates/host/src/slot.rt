@@ -1,7 +1,7 @@
 // What a C player calls on the eight slots, one value that it owns: they go in and come back by value. A C caller gets numbers in place
 // of enums, and any value of the structs is fine, also one that no call made.
+use held::Held;
 use slots::Slots;
-use slots::held::Held;
 ghost use mathlib.Core.Path.{_≡_};
 ghost use lib.ListN.{length};
 ghost use Rattle.slots.specs.Slots.{start, opened, closed, sequenced, pictured};

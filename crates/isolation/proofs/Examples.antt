@@ -14,8 +14,8 @@ use Rattle.format.specs.Coded.{CodedThen, Coded}
 use Rattle.format.specs.Varied.{Both, Variation}
 use Rattle.equirectangular.specs.Equirectangular.{guardBand, equirectangular}
 use Rattle.equirectangular.specs.declared.Equirectangular.{Equirectangular}
-use Rattle.reader.specs.Listed.{form, named}
-use Rattle.reader.specs.declared.kind.Kind.the-variants as kinds
+use Rattle.answers.specs.Listed.{form, named}
+use Rattle.answers.specs.declared.kind.Kind.the-variants as kinds
 use Rattle.isolation.specs.Runs.{feeds}
 use Rattle.isolation.specs.Pairs.{Pair, varied}
 

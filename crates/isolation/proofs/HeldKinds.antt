@@ -5,16 +5,16 @@ use native.Mathlib.Omega.{arith}
 use mathlib.Core.Path.{_≡_, refl, sym, ap, _∙_}
 use mathlib.Core.Logic.{_≢_}
 use lib.Dec.{eqb}
-use Rattle.reader.specs.Listed.{Record, zeros, number}
-use Rattle.reader.specs.Answer.{messageOf, made}
-use Rattle.reader.specs.declared.kind.Kind.{Kind}
-use Rattle.reader.specs.declared.kind.Kind.the-variants as kinds
-use Rattle.reader.specs.declared.answer.Answer.{Answer}
-use Rattle.reader.specs.declared.answer.Message.{Message}
-use Rattle.reader.specs.declared.answer.Message.the-variants as message
-use Rattle.reader.specs.declared.answer.Outcome.the-variants.{Taken}
+use Rattle.answers.specs.Listed.{Record, zeros, number}
+use Rattle.answers.specs.Answer.{messageOf, made}
+use Rattle.answers.specs.declared.kind.Kind.{Kind}
+use Rattle.answers.specs.declared.kind.Kind.the-variants as kinds
+use Rattle.answers.specs.declared.Answer.{Answer}
+use Rattle.answers.specs.declared.Message.{Message}
+use Rattle.answers.specs.declared.Message.the-variants as message
+use Rattle.answers.specs.declared.Outcome.the-variants.{Taken}
 use Rattle.format.specs.Syntax.{if_then_else_}
-use Rattle.slots.specs.Held.{
+use Rattle.held.specs.Held.{
   nothing,
   kept,
   noFramePacking,
@@ -38,12 +38,12 @@ use Rattle.slots.specs.Held.{
   withRotation,
   withRegions,
 }
-use Rattle.slots.specs.declared.held.HeldFramePacking.{HeldFramePacking}
-use Rattle.slots.specs.declared.held.HeldOrientation.{HeldOrientation}
-use Rattle.slots.specs.declared.held.HeldEquirectangular.{HeldEquirectangular}
-use Rattle.slots.specs.declared.held.HeldRotation.{HeldRotation}
-use Rattle.slots.specs.declared.held.HeldPacking.{HeldPacking}
-use Rattle.slots.specs.declared.held.Held.{Held}
+use Rattle.held.specs.declared.HeldFramePacking.{HeldFramePacking}
+use Rattle.held.specs.declared.HeldOrientation.{HeldOrientation}
+use Rattle.held.specs.declared.HeldEquirectangular.{HeldEquirectangular}
+use Rattle.held.specs.declared.HeldRotation.{HeldRotation}
+use Rattle.held.specs.declared.HeldPacking.{HeldPacking}
+use Rattle.held.specs.declared.Held.{Held}
 use Rattle.calls.specs.Feed.{heldAfter}
 use Rattle.calls.proofs.FeedLaws.{if-ap, Unheld, alpha, depth, registered, unregistered}
 use Rattle.isolation.specs.Lasting.{Lasting, framePacking, orientation, equirectangular, rotation, regionWise, kindOf, cancelOf, persistenceOf, Marked, heldOf}

@@ -12,15 +12,15 @@ use Rattle.format.specs.Whole.{Reading, taken, setAside, refused as refused-rea
 use Rattle.regions.specs.Region.{most}
 use Rattle.regions.specs.declared.Packing.{Packing}
 use Rattle.regions.proofs.Kept as regions
-use Rattle.reader.specs.Listed.{Record, form, number, named}
-use Rattle.reader.specs.Answer.{numberOf, made, answerFor}
-use Rattle.reader.specs.Reader.{readingOf, sized, cut, answered, answerTo}
-use Rattle.reader.specs.declared.kind.Kind.{Kind}
-use Rattle.reader.specs.declared.kind.Kind.the-variants as kinds
-use Rattle.reader.specs.declared.kind.Named.{Named}
-use Rattle.reader.specs.declared.kind.Named.the-variants.{Listed, Unlisted}
-use Rattle.reader.specs.declared.answer.Answer.{Answer}
-use Rattle.reader.specs.declared.answer.Outcome.the-variants.{Taken}
+use Rattle.answers.specs.Listed.{Record, form, number, named, readingOf}
+use Rattle.answers.specs.Answer.{numberOf, made, answerFor}
+use Rattle.reader.specs.Reader.{sized, cut, answered, answerTo}
+use Rattle.answers.specs.declared.kind.Kind.{Kind}
+use Rattle.answers.specs.declared.kind.Kind.the-variants as kinds
+use Rattle.answers.specs.declared.kind.Named.{Named}
+use Rattle.answers.specs.declared.kind.Named.the-variants.{Listed, Unlisted}
+use Rattle.answers.specs.declared.Answer.{Answer}
+use Rattle.answers.specs.declared.Outcome.the-variants.{Taken}
 use Rattle.reader.proofs.Demand2.{taken-when}
 use Rattle.format.specs.Syntax.{if_then_else_}
 use Rattle.slots.specs.Slots.{Eight, slotAt, isOpen, freshSlot}

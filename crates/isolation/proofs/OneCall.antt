@@ -6,11 +6,11 @@ use mathlib.Core.Bool.{Bool, true, false}
 use borrow.Author.Tests.{lt-ltb}
 use Rattle.bits.specs.declared.refusal.Refusal.{Refusal}
 use Rattle.format.specs.Syntax.{if_then_else_}
-use Rattle.slots.specs.Held.{nothing}
+use Rattle.held.specs.Held.{nothing}
 use Rattle.slots.specs.Slots.{Eight, slotAt, isOpen, freshSlot, closedSlot, replaced, opened, pictured}
 use Rattle.slots.specs.declared.Answer.{Answer}
 use Rattle.slots.specs.declared.Answer.the-variants.{Done, Refused}
-use Rattle.slots.specs.declared.held.Held.{Held}
+use Rattle.held.specs.declared.Held.{Held}
 use Rattle.slots.specs.declared.Slot.{Slot}
 use Rattle.slots.specs.declared.Slots.{Slots}
 use Rattle.slots.proofs.Laws as laws

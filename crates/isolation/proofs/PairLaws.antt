@@ -12,12 +12,12 @@ use Rattle.bits.specs.Bits.{bitsOf}
 use Rattle.format.specs.Whole.{Reading, taken, setAside, refused, given, whole, Follows}
 use Rattle.format.proofs.Whole.{whole-holds, varied-whole}
 use Rattle.rows.specs.Rows.{refuses}
-use Rattle.reader.specs.Listed.{Record, form, named}
-use Rattle.reader.specs.Answer.{numberOf, answerFor}
-use Rattle.reader.specs.Reader.{readingOf, answerTo}
-use Rattle.reader.specs.declared.kind.Kind.{Kind}
-use Rattle.reader.specs.declared.answer.Answer.{Answer}
-use Rattle.reader.specs.declared.kind.Named.the-variants.{Listed}
+use Rattle.answers.specs.Listed.{Record, form, named, readingOf}
+use Rattle.answers.specs.Answer.{numberOf, answerFor}
+use Rattle.reader.specs.Reader.{answerTo}
+use Rattle.answers.specs.declared.kind.Kind.{Kind}
+use Rattle.answers.specs.declared.Answer.{Answer}
+use Rattle.answers.specs.declared.kind.Named.the-variants.{Listed}
 use Rattle.reader.proofs.Demand2.{taken-when, aside-when}
 use Rattle.reader.proofs.Numbers as numbers
 use Rattle.reader.proofs.Numbers.{numberIn, call, number-0, number-20}
@@ -25,7 +25,7 @@ use Rattle.reader.proofs.Order.{to-payload}
 use Rattle.reader.proofs.Local.{local}
 use Rattle.format.specs.Syntax.{if_then_else_}
 use Rattle.slots.specs.Slots.{isOpen, holding}
-use Rattle.slots.specs.declared.held.Held.{Held}
+use Rattle.held.specs.declared.Held.{Held}
 use Rattle.slots.specs.declared.Slot.{Slot}
 use Rattle.calls.specs.Feed.{heldAfter, shutAnswer}
 use Rattle.calls.specs.Table.{tableOfHeld}

@@ -10,19 +10,19 @@ use mathlib.Core.List.{List, [], _∷_, _++_}
 use lib.Dec.{eqb}
 use borrow.Author.Tests.{eq-eqb, ne-eqb, eqb-true, eqb-false}
 use Rattle.format.specs.Whole.{Reading, taken, setAside, refused as refused-reading}
-use Rattle.reader.specs.Listed.{Record, number, named}
-use Rattle.reader.specs.Answer.{numberOf, made, answerFor, unknown}
+use Rattle.answers.specs.Listed.{Record, number, named}
+use Rattle.answers.specs.Answer.{numberOf, made, answerFor, unknown}
 use Rattle.reader.specs.Reader.{sized, cut, answered, answerTo}
-use Rattle.reader.specs.declared.kind.Kind.{Kind}
-use Rattle.reader.specs.declared.kind.Kind.the-variants as kinds
-use Rattle.reader.specs.declared.kind.Named.{Named}
-use Rattle.reader.specs.declared.kind.Named.the-variants.{Listed, Unlisted}
-use Rattle.reader.specs.declared.answer.Answer.{Answer}
-use Rattle.reader.specs.declared.answer.Outcome.the-variants.{Taken}
+use Rattle.answers.specs.declared.kind.Kind.{Kind}
+use Rattle.answers.specs.declared.kind.Kind.the-variants as kinds
+use Rattle.answers.specs.declared.kind.Named.{Named}
+use Rattle.answers.specs.declared.kind.Named.the-variants.{Listed, Unlisted}
+use Rattle.answers.specs.declared.Answer.{Answer}
+use Rattle.answers.specs.declared.Outcome.the-variants.{Taken}
 use Rattle.format.specs.Syntax.{if_then_else_}
-use Rattle.slots.specs.Held.{nothing, kept}
+use Rattle.held.specs.Held.{nothing, kept}
 use Rattle.slots.specs.Slots.{isOpen, holding, freshSlot, closedSlot}
-use Rattle.slots.specs.declared.held.Held.{Held}
+use Rattle.held.specs.declared.Held.{Held}
 use Rattle.slots.specs.declared.Slot.{Slot}
 use Rattle.slots.specs.declared.Answer.the-variants.{Done}
 use Rattle.slots.proofs.Laws.{fresh-open, fresh-holds, closed-holds, holding-open, holding-holds}

@@ -3,12 +3,12 @@ use Prim.Native.Nat.{ℕ}
 use mathlib.Core.Path.{_≡_}
 use mathlib.Core.Logic.{_≢_}
 use mathlib.Core.List.{List, [], _∷_, _++_}
-use Rattle.reader.specs.Listed.{Record}
-use Rattle.reader.specs.Answer.{made}
-use Rattle.reader.specs.declared.kind.Kind.{Kind}
-use Rattle.reader.specs.declared.kind.Kind.the-variants as kinds
-use Rattle.reader.specs.declared.answer.Outcome.the-variants.{Taken}
-use Rattle.slots.specs.declared.held.Held.{Held}
+use Rattle.answers.specs.Listed.{Record}
+use Rattle.answers.specs.Answer.{made}
+use Rattle.answers.specs.declared.kind.Kind.{Kind}
+use Rattle.answers.specs.declared.kind.Kind.the-variants as kinds
+use Rattle.answers.specs.declared.Outcome.the-variants.{Taken}
+use Rattle.held.specs.declared.Held.{Held}
 use Rattle.slots.specs.declared.Slot.{Slot}
 use Rattle.isolation.specs.Runs.{Call, opens, closes, sequences, pictures, feeds, tables, Reply, read, turn}
 

@@ -7,9 +7,9 @@ use lib.ListN.{length, take}
 use Rattle.bits.specs.Bits.{bitsOf}
 use Rattle.format.specs.Whole.{Holds, Follows}
 use Rattle.format.specs.Varied.{Variation}
-use Rattle.reader.specs.Listed.{Record, form, named}
-use Rattle.reader.specs.declared.kind.Kind.{Kind}
-use Rattle.reader.specs.declared.kind.Named.the-variants.{Listed}
+use Rattle.answers.specs.Listed.{Record, form, named}
+use Rattle.answers.specs.declared.kind.Kind.{Kind}
+use Rattle.answers.specs.declared.kind.Named.the-variants.{Listed}
 use Rattle.slots.specs.Slots.{freshSlot, slotAt}
 use Rattle.slots.specs.declared.Answer.the-variants.{Done}
 use Rattle.slots.specs.declared.Slots.{Slots}

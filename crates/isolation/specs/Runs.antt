@@ -7,14 +7,14 @@ use lib.Dec.{eqb}
 use Rattle.bits.specs.Refusals.{bySlot}
 use Rattle.rows.specs.Rows.{Table, refuses}
 use Rattle.reader.specs.Reader.{answerTo}
-use Rattle.reader.specs.declared.answer.Answer as reader
-use Rattle.reader.specs.declared.answer.Outcome.the-variants.{Taken}
+use Rattle.answers.specs.declared.Answer as reader
+use Rattle.answers.specs.declared.Outcome.the-variants.{Taken}
 use Rattle.format.specs.Syntax.{if_then_else_}
-use Rattle.slots.specs.Held.{nothing, kept}
+use Rattle.held.specs.Held.{nothing, kept}
 use Rattle.slots.specs.Slots.{freshSlot, closedSlot, isOpen, holding, opened, closed, sequenced, pictured}
 use Rattle.slots.specs.declared.Answer.{Answer}
 use Rattle.slots.specs.declared.Answer.the-variants.{Done, Refused}
-use Rattle.slots.specs.declared.held.Held.{Held}
+use Rattle.held.specs.declared.Held.{Held}
 use Rattle.slots.specs.declared.Slot.{Slot}
 use Rattle.slots.specs.declared.Slots.{Slots}
 use Rattle.calls.specs.Feed.{heldAfter, shutAnswer, fedTo}

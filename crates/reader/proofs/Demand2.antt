@@ -12,9 +12,8 @@ use Rattle.bits.specs.declared.refusal.Refusal.the-variants.{Tail}
 use Rattle.format.specs.Stopped.{Stopped}
 use Rattle.format.specs.Whole.{taken, setAside, refused, Holds, BadTail}
 use Rattle.format.proofs.Whole.{OfElement, Seen, seen, taken-iff, aside-iff, stopped-iff, tail-iff}
-use Rattle.reader.specs.Listed.{Record, form}
-use Rattle.reader.specs.Reader.{readingOf}
-use Rattle.reader.specs.declared.kind.Kind.{Kind}
+use Rattle.answers.specs.Listed.{Record, form, readingOf}
+use Rattle.answers.specs.declared.kind.Kind.{Kind}
 
 module _ (k : Kind) (s : List ℕ) where
   -- 0, with the record a and an extension of e bits: exactly where the bits are a message a of the kind and then nothing or a

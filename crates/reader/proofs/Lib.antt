@@ -1,4 +1,3 @@
-pub mod Finish
 pub mod Order
 pub mod Demand2
 pub mod Local

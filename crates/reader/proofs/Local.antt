@@ -7,12 +7,12 @@ use mathlib.Core.Bool.{Bool, true, false}
 use mathlib.Core.List.{List}
 use borrow.Author.Tests.{le-leb}
 use lib.ListN.{length, take}
-use Rattle.reader.specs.Listed.{named}
-use Rattle.reader.specs.Answer.{answerFor}
-use Rattle.reader.specs.Reader.{readingOf, sized, cut, answered, answerTo}
-use Rattle.reader.specs.declared.kind.Kind.{Kind}
-use Rattle.reader.specs.declared.kind.Named.{Named}
-use Rattle.reader.specs.declared.kind.Named.the-variants.{Listed, Unlisted}
+use Rattle.answers.specs.Listed.{named, readingOf}
+use Rattle.answers.specs.Answer.{answerFor}
+use Rattle.reader.specs.Reader.{sized, cut, answered, answerTo}
+use Rattle.answers.specs.declared.kind.Kind.{Kind}
+use Rattle.answers.specs.declared.kind.Named.{Named}
+use Rattle.answers.specs.declared.kind.Named.the-variants.{Listed, Unlisted}
 
 same-cut : (k : Kind) (b : Bool) (size : ℕ) (s t : List ℕ) → take size s ≡ take size t → cut k b size s ≡ cut k b size t
 same-cut k true size s t e = ap (readingOf k) e

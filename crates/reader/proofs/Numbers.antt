@@ -16,12 +16,12 @@ use Rattle.bits.proofs.Determined.{refusal-told}
 use Rattle.bits.specs.Bits.{bitsOf}
 use Rattle.format.specs.Whole.{Form, Reading, taken, setAside, refused, given, whole as wholeOf}
 use Rattle.format.proofs.Whole as whole
-use Rattle.reader.specs.Listed.{Record, form, named}
-use Rattle.reader.specs.Answer.{numberOf, answerFor}
-use Rattle.reader.specs.Reader.{readingOf, answerTo}
-use Rattle.reader.specs.declared.kind.Kind.{Kind}
-use Rattle.reader.specs.declared.kind.Named.{Named}
-use Rattle.reader.specs.declared.kind.Named.the-variants.{Listed, Unlisted}
+use Rattle.answers.specs.Listed.{Record, form, named, readingOf}
+use Rattle.answers.specs.Answer.{numberOf, answerFor}
+use Rattle.reader.specs.Reader.{answerTo}
+use Rattle.answers.specs.declared.kind.Kind.{Kind}
+use Rattle.answers.specs.declared.kind.Named.{Named}
+use Rattle.answers.specs.declared.kind.Named.the-variants.{Listed, Unlisted}
 use Rattle.reader.proofs.Order.{to-unlisted, to-large, to-long, to-payload}
 
 -- ---- refusals have the numbers 1 to 10

@@ -1,33 +1,19 @@
 -- The order of the numbers: 1, then 2, then what the payload comes to.
 -- Assumes nothing.
 use Prim.Native.Nat.{ℕ, _≤_, _<_}
-use mathlib.Core.Path.{_≡_, refl, ap, _∙_}
+use mathlib.Core.Path.{_≡_, ap, _∙_}
 use mathlib.Core.Bool.{Bool, true, false, _&&_}
 use mathlib.Core.List.{List}
 use borrow.Author.Tests.{le-leb, lt-leb}
 use lib.ListN.{length, take}
 use lib.Dec.{leb}
 use Rattle.bits.specs.Refusals.{bySize}
-use Rattle.bits.specs.declared.refusal.Refusal.{Refusal}
-use Rattle.format.specs.Whole.{refused}
-use Rattle.reader.specs.Listed.{named}
-use Rattle.reader.specs.Answer.{answerFor, refusedAs, unknown}
-use Rattle.reader.specs.Reader.{readingOf, sized, cut, answered, answerTo}
-use Rattle.reader.specs.declared.kind.Kind.{Kind}
-use Rattle.reader.specs.declared.kind.Kind.the-variants as kinds
-use Rattle.reader.specs.declared.kind.Named.the-variants.{Listed, Unlisted}
-
--- a refusal of kind k comes with the zeros of k
-pub refused-plain : (k : Kind) (r : Refusal) → answerFor k (refused r) ≡ refusedAs k r
-refused-plain kinds.FramePacking r = refl
-refused-plain kinds.Orientation r = refl
-refused-plain kinds.Equirectangular r = refl
-refused-plain kinds.Rotation r = refl
-refused-plain kinds.RegionWise r = refl
-refused-plain kinds.Alpha r = refl
-refused-plain kinds.Depth r = refl
-refused-plain kinds.Registered r = refl
-refused-plain kinds.Unregistered r = refl
+use Rattle.answers.specs.Listed.{named, readingOf}
+use Rattle.answers.specs.Answer.{answerFor, refusedAs, unknown}
+use Rattle.answers.proofs.AnswerLaws.{refused-plain}
+use Rattle.reader.specs.Reader.{sized, cut, answered, answerTo}
+use Rattle.answers.specs.declared.kind.Kind.{Kind}
+use Rattle.answers.specs.declared.kind.Named.the-variants.{Listed, Unlisted}
 
 too-large : (size : ℕ) (l : Bool) → 8192 < size → (leb size 8192 && l) ≡ false
 too-large size l h = rw (lt-leb size 8192 h)

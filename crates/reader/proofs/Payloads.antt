@@ -17,8 +17,8 @@ use Rattle.alpha.specs.Alpha.{flags, information, alpha}
 use Rattle.depth.specs.Element.{element, elementIf}
 use Rattle.depth.specs.Model.{model}
 use Rattle.depth.specs.Depth as depths
-use Rattle.reader.specs.Listed.{named}
-use Rattle.reader.specs.Reader.{readingOf, answerTo}
+use Rattle.answers.specs.Listed.{named, readingOf}
+use Rattle.reader.specs.Reader.{answerTo}
 use Rattle.reader.specs.Payloads.{Held, All, end, _and_, rows}
 
 pub payloads-hold : All Held rows

@@ -26,10 +26,9 @@ use Rattle.format.proofs.Whole.{closedAt, whole-at}
 use Rattle.user_data.specs.Registered.{registered}
 use Rattle.user_data.specs.declared.registered.Registered.{Registered}
 use Rattle.user_data.proofs.Heads.{named, unregistered-is}
-use Rattle.reader.specs.Listed.{Record, form}
-use Rattle.reader.specs.Reader.{readingOf}
-use Rattle.reader.specs.declared.kind.Kind.{Kind}
-use Rattle.reader.specs.declared.kind.Kind.the-variants as kinds
+use Rattle.answers.specs.Listed.{Record, form, readingOf}
+use Rattle.answers.specs.declared.kind.Kind.{Kind}
+use Rattle.answers.specs.declared.kind.Kind.the-variants as kinds
 
 -- ---- the first byte
 

@@ -17,18 +17,18 @@ use Rattle.bits.specs.declared.refusal.Refusal.the-variants.{Short}
 use Rattle.bits.proofs.BitLaws.{below}
 use Rattle.format.specs.Whole.{Reading, taken, setAside, refused}
 use Rattle.user_data.specs.Registered.{headBytes}
-use Rattle.reader.specs.Listed.{Record, named}
-use Rattle.reader.specs.Answer.{outcomeNumber, numberOf, messageOf, answerFor, made, refusedAs}
-use Rattle.reader.specs.Reader.{readingOf, answerTo}
+use Rattle.answers.specs.Listed.{Record, named, readingOf}
+use Rattle.answers.specs.Answer.{outcomeNumber, numberOf, messageOf, answerFor, made, refusedAs}
+use Rattle.reader.specs.Reader.{answerTo}
 use Rattle.reader.specs.User.{startIn, startFor, startOf, partFrom, userPart}
-use Rattle.reader.specs.declared.kind.Kind.{Kind}
-use Rattle.reader.specs.declared.kind.Kind.the-variants as kinds
-use Rattle.reader.specs.declared.kind.Named.{Named}
-use Rattle.reader.specs.declared.kind.Named.the-variants.{Listed, Unlisted}
-use Rattle.reader.specs.declared.answer.Answer.{Answer}
-use Rattle.reader.specs.declared.answer.Message.{Message}
-use Rattle.reader.specs.declared.answer.Outcome.{Outcome}
-use Rattle.reader.specs.declared.answer.Outcome.the-variants.{Taken, SetAside, Refused}
+use Rattle.answers.specs.declared.kind.Kind.{Kind}
+use Rattle.answers.specs.declared.kind.Kind.the-variants as kinds
+use Rattle.answers.specs.declared.kind.Named.{Named}
+use Rattle.answers.specs.declared.kind.Named.the-variants.{Listed, Unlisted}
+use Rattle.answers.specs.declared.Answer.{Answer}
+use Rattle.answers.specs.declared.Message.{Message}
+use Rattle.answers.specs.declared.Outcome.{Outcome}
+use Rattle.answers.specs.declared.Outcome.the-variants.{Taken, SetAside, Refused}
 use Rattle.reader.specs.declared.user.Start.{Start}
 use Rattle.reader.specs.declared.user.Start.the-variants.{At, Nowhere}
 use Rattle.reader.proofs.Order.{to-unlisted, to-large, to-long, to-payload}

@@ -13,10 +13,10 @@ use Rattle.rotation.specs.declared.Rotation.{Rotation}
 use Rattle.alpha.specs.declared.Alpha.{Alpha}
 use Rattle.depth.specs.declared.Depth.{Depth}
 use Rattle.depth.specs.declared.element.DepthValue.{DepthValue}
-use Rattle.reader.specs.declared.kind.Kind.the-variants as kinds
-use Rattle.reader.specs.declared.answer.Answer.{Answer}
-use Rattle.reader.specs.declared.answer.Outcome.the-variants.{Taken}
-use Rattle.reader.specs.Answer.{made, refusedAs}
+use Rattle.answers.specs.declared.kind.Kind.the-variants as kinds
+use Rattle.answers.specs.declared.Answer.{Answer}
+use Rattle.answers.specs.declared.Outcome.the-variants.{Taken}
+use Rattle.answers.specs.Answer.{made, refusedAs}
 use Rattle.reader.specs.Reader.{answerTo}
 
 pub record Row : Type 0 where

@@ -4,19 +4,14 @@ use mathlib.Core.Bool.{Bool, true, false, _&&_}
 use mathlib.Core.List.{List}
 use lib.Dec.{leb}
 use lib.ListN.{length, take}
-use Rattle.bits.specs.Bits.{bitsOf}
 use Rattle.bits.specs.Refusals.{bySize}
-use Rattle.format.specs.Whole.{Reading, refused, whole}
-use Rattle.reader.specs.Listed.{Record, form, named}
-use Rattle.reader.specs.declared.kind.Kind.{Kind}
-use Rattle.reader.specs.declared.kind.Named.{Named}
-use Rattle.reader.specs.declared.kind.Named.the-variants.{Listed, Unlisted}
-use Rattle.reader.specs.Answer.{answerFor, unknown}
-use Rattle.reader.specs.declared.answer.Answer.{Answer}
-
--- a payload of kind k
-unfoldable pub readingOf : (k : Kind) → List ℕ → Reading (Record k)
-readingOf k s = whole (form k) (bitsOf s)
+use Rattle.format.specs.Whole.{Reading, refused}
+use Rattle.answers.specs.Listed.{Record, readingOf, named}
+use Rattle.answers.specs.declared.kind.Kind.{Kind}
+use Rattle.answers.specs.declared.kind.Named.{Named}
+use Rattle.answers.specs.declared.kind.Named.the-variants.{Listed, Unlisted}
+use Rattle.answers.specs.Answer.{answerFor, unknown}
+use Rattle.answers.specs.declared.Answer.{Answer}
 
 -- the stated size is within the limit and the lent bytes
 abbrev pub sized : ℕ → List ℕ → Bool

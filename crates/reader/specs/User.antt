@@ -4,11 +4,11 @@ use mathlib.Core.List.{List, []}
 use lib.ListN.{take, drop}
 use Rattle.user_data.specs.Registered.{headBytes}
 use Rattle.reader.specs.Reader.{answerTo}
-use Rattle.reader.specs.declared.answer.Answer.{Answer}
-use Rattle.reader.specs.declared.answer.Outcome.{Outcome}
-use Rattle.reader.specs.declared.answer.Outcome.the-variants.{Taken, SetAside, Refused}
-use Rattle.reader.specs.declared.answer.Message.{Message}
-use Rattle.reader.specs.declared.answer.Message.the-variants as message
+use Rattle.answers.specs.declared.Answer.{Answer}
+use Rattle.answers.specs.declared.Outcome.{Outcome}
+use Rattle.answers.specs.declared.Outcome.the-variants.{Taken, SetAside, Refused}
+use Rattle.answers.specs.declared.Message.{Message}
+use Rattle.answers.specs.declared.Message.the-variants as message
 use Rattle.reader.specs.declared.user.Start.{Start}
 use Rattle.reader.specs.declared.user.Start.the-variants.{At, Nowhere}
 

@@ -1,15 +1,15 @@
 // The reader: any kind, any size, any bytes.
-use crate::answer::Answer;
-use crate::kind::Kind;
-use crate::kind::Named;
-use crate::message;
+use answers::Answer;
+use answers::kind::Kind;
+use answers::kind::Named;
 use bits::refusal::Refusal;
 ghost use mathlib.Core.Path.{_≡_};
 ghost use Prim.Native.Nat.{_≤_};
 ghost use lib.ListN.{length, take};
 ghost use Rattle.bits.specs.Bits.{Payload};
-ghost use Rattle.reader.specs.Answer.{answerFor};
-ghost use Rattle.reader.specs.Reader.{readingOf, answerTo};
+ghost use Rattle.answers.specs.Listed.{readingOf};
+ghost use Rattle.answers.specs.Answer.{answerFor};
+ghost use Rattle.reader.specs.Reader.{answerTo};
 
 // The payload s of a listed kind.
 fn of_kind(kind: Kind, s: &[u8]) -> Answer
@@ -17,15 +17,15 @@ fn of_kind(kind: Kind, s: &[u8]) -> Answer
     ensures { λ r. ⌜ r ≡ answerFor kind (readingOf kind (now (s .entry))) ⌝ }
 {
     match kind {
-        Kind::FramePacking => message::frame_packing(s),
-        Kind::Orientation => message::orientation(s),
-        Kind::Equirectangular => message::equirectangular(s),
-        Kind::Rotation => message::rotation(s),
-        Kind::RegionWise => message::region_wise(s),
-        Kind::Alpha => message::alpha(s),
-        Kind::Depth => message::depth(s),
-        Kind::Registered => message::registered(s),
-        Kind::Unregistered => message::unregistered(s),
+        Kind::FramePacking => messages::frame_packing(s),
+        Kind::Orientation => messages::orientation(s),
+        Kind::Equirectangular => messages::equirectangular(s),
+        Kind::Rotation => messages::rotation(s),
+        Kind::RegionWise => messages::region_wise(s),
+        Kind::Alpha => messages::alpha(s),
+        Kind::Depth => messages::depth(s),
+        Kind::Registered => messages::registered(s),
+        Kind::Unregistered => messages::unregistered(s),
     }
 }
 

@@ -1,8 +1,8 @@
 // User data: what follows the head of a payload of kind 4 or 5 is handed back as that part of the caller's bytes.
-use crate::answer::Answer;
-use crate::answer::Message;
-use crate::answer::Outcome;
 use crate::payload::read;
+use answers::Answer;
+use answers::Message;
+use answers::Outcome;
 use user_data::registered::Registered;
 ghost use mathlib.Core.Path.{_≡_};
 ghost use Rattle.user_data.specs.Registered.{headBytes};
@@ -16,7 +16,7 @@ pub enum Start {
 
 impl Start {
     // The country code is one byte, and one more where it is 255.
-    pub fn registered(a: Registered) -> Start
+    fn registered(a: Registered) -> Start
         ensures { λ r. ⌜ r ≡ Start.At (headBytes a) ⌝ }
     {
         let code = a.country_code;
@@ -26,7 +26,7 @@ impl Start {
         Start::At(1)
     }
 
-    pub fn within(message: Message) -> Start
+    fn within(message: Message) -> Start
         ensures { λ r. ⌜ r ≡ startIn message ⌝ }
     {
         match message {

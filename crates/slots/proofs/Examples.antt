@@ -5,7 +5,7 @@ use mathlib.Core.Path.{_≡_, refl}
 use mathlib.Core.List.{[], _∷_}
 use Rattle.frame_packing.specs.FramePacking.{noFlags, noGrid}
 use Rattle.frame_packing.specs.declared.FramePacking.{FramePacking}
-use Rattle.slots.specs.Held.{
+use Rattle.held.specs.Held.{
   noFramePacking,
   takenFramePacking,
   noOrientation,
@@ -39,7 +39,7 @@ use Rattle.slots.specs.Slots.{
   _showing_,
   pictured,
 }
-use Rattle.slots.specs.declared.held.Held.{Held}
+use Rattle.held.specs.declared.Held.{Held}
 use Rattle.slots.specs.declared.Slots.{Slots}
 
 -- opening slot 3 opens it and no other

@@ -13,7 +13,7 @@ use borrow.Author.Tests.{lt-ltb, le-ltb, ltb-false}
 use Rattle.bits.specs.Refusals.{bySlot}
 use Rattle.bits.proofs.BitLaws.{below}
 use Rattle.bits.specs.declared.refusal.Refusal.{Refusal}
-use Rattle.slots.specs.Held.{nothing, kept}
+use Rattle.held.specs.Held.{nothing, kept}
 use Rattle.format.specs.Syntax.{if_then_else_}
 use Rattle.slots.specs.Slots.{
   answerNumber,
@@ -34,7 +34,7 @@ use Rattle.slots.specs.Slots.{
   _showing_,
   pictured,
 }
-use Rattle.slots.specs.declared.held.Held.{Held}
+use Rattle.held.specs.declared.Held.{Held}
 use Rattle.slots.specs.declared.Slot.{Slot}
 use Rattle.slots.specs.declared.Slots.{Slots}
 use Rattle.slots.specs.declared.Answer.{Answer}

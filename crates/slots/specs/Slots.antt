@@ -5,9 +5,9 @@ use mathlib.Core.Path.{_≡_}
 use lib.Dec.{eqb, ltb}
 use lib.ListN.{length, replicate, getD, set}
 use Rattle.bits.specs.Refusals.{numberOf, bySlot}
-use Rattle.slots.specs.Held.{nothing, kept}
+use Rattle.held.specs.Held.{nothing, kept}
 use Rattle.format.specs.Syntax.{if_then_else_}
-use Rattle.slots.specs.declared.held.Held.{Held}
+use Rattle.held.specs.declared.Held.{Held}
 use Rattle.slots.specs.declared.Slot.{Slot}
 use Rattle.slots.specs.declared.Slots.{Slots}
 use Rattle.slots.specs.declared.Answer.{Answer}

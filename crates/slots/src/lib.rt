@@ -1,7 +1,5 @@
 // The eight slots, as one value: a call takes them and answers with them as it leaves them. Any value of the type is
 // fine, also one that no call made.
-pub mod held;
-
 use bits::refusal::Refusal;
 use held::Held;
 ghost use mathlib.Core.Path.{_≡_};
@@ -55,7 +53,7 @@ impl Slot {
         Slot { open: 1, held }
     }
 
-    pub fn closed() -> Slot
+    fn closed() -> Slot
         ensures { λ r. ⌜ r ≡ closedSlot ⌝ }
     {
         let mut slot = Slot::fresh();

@@ -1,9 +1,9 @@
 // Two runs of calls with what each answers: the slot example of 01, and a slot that passes from one camera to another.
 use calls::feed;
+use held::HeldFramePacking;
 use libc::STDOUT_FILENO;
 use slots::Called;
 use slots::Slots;
-use slots::held::HeldFramePacking;
 
 fn number(n: u32) -> u64 {
     n as u64

@@ -1,5 +1,7 @@
 // A payload's answer, as one line of text.
 use alpha::Alpha;
+use answers::Answer;
+use answers::Message;
 use depth::Depth;
 use depth::element::DepthValue;
 use equirectangular::Equirectangular;
@@ -11,8 +13,6 @@ use numbers::degrees::Degrees;
 use numbers::degrees::degree_bits;
 use numbers::depth::DepthNumber;
 use orientation::Orientation;
-use reader::answer::Answer;
-use reader::answer::Message;
 use rotation::Rotation;
 use user_data::registered::Registered;
 

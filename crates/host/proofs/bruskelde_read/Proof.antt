@@ -1,7 +1,7 @@
 -- `host::bruskelde_read` meets its contract.
 -- Assumes nothing.
 use mathlib.Core.Path.{ap, _∙_}
-use Rattle.reader.specs.Answer.{numberOf}
+use Rattle.answers.specs.Answer.{numberOf}
 use Rattle.host.proofs.bruskelde_read.Statement.{statement}
 use Rattle.host.proofs.bruskelde_read.Tie as tie
 

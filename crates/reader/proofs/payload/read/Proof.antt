@@ -4,8 +4,8 @@ use mathlib.Core.Path.{_≡_, sym, _∙_}
 use native.Mathlib.Omega.{arith}
 use borrow.Author.Needs.{needs}
 use lib.ListN.{length-take}
-use Rattle.reader.specs.Listed.{named}
-use Rattle.reader.specs.declared.kind.Named.the-variants.{Listed}
+use Rattle.answers.specs.Listed.{named}
+use Rattle.answers.specs.declared.kind.Named.the-variants.{Listed}
 use Rattle.reader.proofs.Order.{to-unlisted, to-large, to-long, to-payload}
 use Rattle.reader.proofs.payload.read.Statement.{statement}
 use Rattle.reader.proofs.payload.read.Tie as tie

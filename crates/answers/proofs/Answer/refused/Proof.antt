@@ -1,0 +1,12 @@
+-- `answers::Answer::refused` meets its contract.
+-- Assumes nothing.
+use Rattle.answers.proofs.Answer.refused.Statement.{statement}
+use Rattle.answers.proofs.Answer.refused.Tie as tie
+
+pub refused-spec : {M : Type 1} → statement M
+refused-spec =
+    tie.close
+    (tie.spec
+    (λ c κs. tt)
+    (λ c κs. tt)
+    (λ c. rw (c .plain .ensures, c .before .zero .ensures)))

@@ -1,0 +1,12 @@
+-- `answers::Answer::unknown` meets its contract.
+-- Assumes nothing.
+use Rattle.answers.proofs.Answer.unknown.Statement.{statement}
+use Rattle.answers.proofs.Answer.unknown.Tie as tie
+
+pub unknown-spec : {M : Type 1} → statement M
+unknown-spec =
+    tie.close
+    (tie.spec
+    (λ c κs. tt)
+    (λ c κs. tt)
+    (λ c. rw (c .plain .ensures, c .before .kind .ensures)))

@@ -1,0 +1,16 @@
+-- `answers::Answer::with_depth` meets its contract.
+-- Assumes nothing.
+use Rattle.answers.proofs.Answer.with_depth.Statement.{statement}
+use Rattle.answers.proofs.Answer.with_depth.Tie as tie
+
+pub with-depth-spec : {M : Type 1} → statement M
+with-depth-spec =
+    tie.close
+    (tie.spec
+    (λ c. c .match .keys1)
+    (λ c κs. tt)
+    (λ c κs. tt)
+    (λ c. c .match .keys2)
+    (λ c κs. tt)
+    (λ c. simp (c .zero2 .ensures, c .before .zero .ensures, c .before .before .before .end .given .1))
+    (λ c. rw (c .refused .ensures, c .before .before .end2 .given .1)))

@@ -1,0 +1,12 @@
+-- `held::HeldEquirectangular::nothing` meets its contract.
+-- Assumes nothing.
+use Rattle.held.specs.Held.{noEquirectangular}
+use Rattle.held.proofs.HeldEquirectangular.nothing.Statement.{statement}
+use Rattle.held.proofs.HeldEquirectangular.nothing.Tie as tie
+
+returns : tie.Need-returns
+unfolding noEquirectangular
+returns c = rw (c .zero .ensures)
+
+pub nothing-spec : {M : Type 1} → statement M
+nothing-spec = tie.close (tie.spec (λ c κs. tt) returns)

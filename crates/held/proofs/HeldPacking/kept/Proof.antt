@@ -1,0 +1,17 @@
+-- `held::HeldPacking::kept` meets its contract.
+-- Assumes nothing.
+use borrow.Author.Tests.{eq-eqb, ne-eqb}
+use Rattle.held.specs.Held.{keptPacking}
+use Rattle.held.proofs.HeldPacking.kept.Statement.{statement}
+use Rattle.held.proofs.HeldPacking.kept.Tie as tie
+
+dropped : tie.Need-returns
+unfolding keptPacking
+dropped c = simp (eq-eqb _ _ (c .before .if1 .taken), c .nothing .ensures)
+
+stays : tie.Need-returns-2
+unfolding keptPacking
+stays c = simp (ne-eqb _ _ (c .if1 .left))
+
+pub kept-spec : {M : Type 1} → statement M
+kept-spec = tie.close (tie.spec (λ c κs. tt) dropped stays)

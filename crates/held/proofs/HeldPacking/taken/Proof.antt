@@ -1,0 +1,17 @@
+-- `held::HeldPacking::taken` meets its contract.
+-- Assumes nothing.
+use borrow.Author.Tests.{eq-eqb, ne-eqb}
+use Rattle.held.specs.Held.{takenPacking}
+use Rattle.held.proofs.HeldPacking.taken.Statement.{statement}
+use Rattle.held.proofs.HeldPacking.taken.Tie as tie
+
+cancelled : tie.Need-returns
+unfolding takenPacking
+cancelled c = simp (ne-eqb _ _ (c .before .if1 .taken), c .nothing .ensures)
+
+held : tie.Need-returns-2
+unfolding takenPacking
+held c = simp (eq-eqb _ _ (c .if1 .left))
+
+pub taken-spec : {M : Type 1} → statement M
+taken-spec = tie.close (tie.spec (λ c κs. tt) cancelled held)

@@ -1,0 +1,12 @@
+-- `held::HeldRotation::nothing` meets its contract.
+-- Assumes nothing.
+use Rattle.held.specs.Held.{noRotation}
+use Rattle.held.proofs.HeldRotation.nothing.Statement.{statement}
+use Rattle.held.proofs.HeldRotation.nothing.Tie as tie
+
+returns : tie.Need-returns
+unfolding noRotation
+returns c = rw (c .zero .ensures)
+
+pub nothing-spec : {M : Type 1} → statement M
+nothing-spec = tie.close (tie.spec (λ c κs. tt) returns)

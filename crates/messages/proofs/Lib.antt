@@ -1,0 +1,2 @@
+mod Finish
+pub mod Determined

@@ -1,0 +1,36 @@
+-- `messages::depth` meets its contract.
+-- Assumes nothing.
+use mathlib.Core.Path.{refl, sym, ap, _∙_}
+use borrow.Author.Needs.{needs}
+use Rattle.format.specs.Format.{runAt}
+use Rattle.depth.specs.declared.DepthRead.{DepthRead}
+use Rattle.depth.specs.Depth.{depth, depthRead}
+use Rattle.answers.specs.declared.kind.Kind.the-variants.{Depth}
+use Rattle.messages.proofs.Finish.{by-refused, by-taken, went, stood}
+use Rattle.messages.proofs.depth.Statement.{statement}
+use Rattle.messages.proofs.depth.Tie as tie
+
+returns : tie.Need-returns
+returns c =
+    let told = c .before .before .enum-told .given .1 in
+    let r = c .before .before .before .before in
+    rw (c .refused .ensures, c .before .refusal .ensures, told)
+    (by-refused Depth (r .before .before .args .s .now) refl
+    (stood depthRead (λ x. x .onward) (λ x. x .«record») (λ a q. refl) (λ a q. refl) (λ r. refl) (runAt depth _ 0)
+    (ap (λ (x : DepthRead). x .onward) (sym (r .read .ensures)) ∙ told)))
+
+returns-2 : tie.Need-returns-2
+returns-2 c =
+    let known = c .before .before .before .before .onward .given .1 in
+    let r = c .before .before .before .before .before .before in
+    rw (c .with-depth .ensures, c .before .tail .ensures, r .read .ensures)
+    (by-taken Depth (r .before .before .args .s .now) refl
+    (went depthRead (λ x. x .onward) (λ x. x .«record») (λ a q. refl) (λ a q. refl) (λ r. refl) (runAt depth _ 0)
+    (ap (λ (x : DepthRead). x .onward) (sym (r .read .ensures)) ∙ known)))
+
+pub depth-spec : {M : Type 1} → statement M
+depth-spec =
+    tie.close
+    (tie.spec
+    (λ c κs. search needs) (λ c. c .match .keys1) (λ c. c .match .keys2) (λ c κs. tt) (λ c κs. tt) returns
+    (λ c κs. search needs) (λ c κs. tt) returns-2)
