@@ -1,5 +1,4 @@
-pub mod RowLaws
-pub mod Filled
-pub mod Outcomes
-pub mod Examples
+mod RowLaws
+mod Filled
+mod Outcomes
 pub mod Determined

@@ -10,7 +10,7 @@ use borrow.Author.Tests.{le-leb, lt-leb}
 use lib.ListN.{length, getD, take, drop, replicate, length-replicate, drop-of-length-le}
 use lib.Seq.{sets, sets-eq, take-suc, length-take-le}
 use Rattle.regions.specs.declared.region.Region.{Region}
-use Rattle.rows.proofs.RowLaws.{sets-append}
+use Rattle.lent.proofs.Stores.{sets-append}
 use Rattle.fields.specs.Fields.{regionFields, regionsFields, written, handed}
 
 -- zeros, all written over

@@ -1,5 +1,4 @@
 // The fields of each kind's record as numbers, after the extension count.
-use crate::row::put;
 use crate::row::put_identifier;
 use crate::row::put_model;
 use alpha::Alpha;
@@ -7,6 +6,7 @@ use depth::Depth;
 use depth::element::DepthValue;
 use equirectangular::Equirectangular;
 use frame_packing::FramePacking;
+use lent::put;
 use numbers::degrees::degree_bits;
 use numbers::depth::DepthNumber;
 use numbers::depth::depth_bits;

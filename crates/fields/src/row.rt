@@ -1,24 +1,13 @@
 // The lent row: the room is judged first, and then the numbers are written over its front.
 use bits::refusal::Refusal;
+use lent::put;
 ghost use mathlib.Core.Path.{_≡_};
 ghost use Prim.Native.Nat.{_+_, _≤_};
 ghost use lib.ListN.{length};
 ghost use lib.Seq.{sets};
 ghost use Rattle.fields.specs.Fields.{written, handed};
 
-// The numbers `from`, at `at` and after it.
-pub fn put(row: &mut [u64], at: usize, from: &[u64])
-    requires { ⌜ at + length (now from) ≤ length (now row) ⌝ }
-    ensures { λ _. ⌜ now (row .exit) ≡ sets (now (row .entry)) at (now (from .entry)) ⌝ }
-{
-    let mut j = 0;
-    while j < from.len() {
-        row[at + j] = from[j];
-        j += 1;
-    }
-}
-
-// The same of narrower numbers: the identifier of kind 5, and the list of kind 177.
+// Narrower numbers, at `at` and after it: the identifier of kind 5, and the list of kind 177.
 pub fn put_identifier(row: &mut [u64], at: usize, from: [u8; 16])
     requires { ⌜ at + 16 ≤ length (now row) ⌝ }
     ensures { λ _. ⌜ now (row .exit) ≡ sets (now (row .entry)) at from ⌝ }

@@ -1,33 +1,20 @@
--- Runs of stores into a list, the rows of a run of regions, and what they leave of the lent numbers.
+-- The rows of a run of regions, and what they leave of the lent numbers.
 -- Assumes nothing.
-use Prim.Native.Nat.{ℕ, suc, _+_, _*_, _≤_, _<_}
+use Prim.Native.Nat.{ℕ, _+_, _*_, _≤_, _<_}
 use mathlib.Core.Path.{_≡_, refl, sym, ap, _∙_}
 use mathlib.Core.List.{List, [], _∷_, _++_, append-assoc}
-use native.Mathlib.Nat.{add-zero, zero-add}
+use native.Mathlib.Nat.{zero-add}
 use native.Mathlib.Numerals.{add-one}
 use native.Mathlib.Omega.{arith}
 use borrow.Author.Tests.{le-leb, lt-leb}
-use lib.ListN.{length, getD, set, take, drop, length-append}
+use lib.ListN.{length, getD, take, drop, length-append}
 use lib.Seq.{sets, sets-eq, take-suc, length-take-le}
 use Rattle.bits.specs.Refusals.{byRows}
+use Rattle.lent.proofs.Stores.{sets-append}
 use Rattle.regions.specs.declared.region.Region.{Region}
 use Rattle.rows.specs.declared.Shift.{Shift}
 use Rattle.rows.specs.declared.Tabled.the-variants.{Rows, Refused}
 use Rattle.rows.specs.Rows.{row, rowsBy, noShift, twiceOf, fitted, outcome, wrote}
-
--- two runs, one after the other, are one
-pub sets-append : (xs ys l : List ℕ) (i : ℕ) → sets l i (xs ++ ys) ≡ sets (sets l i xs) (i + length xs) ys
-sets-append [] ys l i = rw add-zero
-sets-append (x ∷ xs) ys l i =
-    let e : suc i + length xs ≡ i + suc (length xs) = omega arith in
-    sets-append xs ys (set l i x) (suc i) ∙ ap (λ (k : ℕ). sets (sets (set l i x) (suc i) xs) k ys) e
-
--- one store more
-pub sets-more : (l xs : List ℕ) (at j : ℕ) → j < length xs → set (sets l at (take j xs)) (at + j) (getD xs j 0) ≡ sets l at (take (j + 1) xs)
-sets-more l xs at j h =
-    let n : length (take j xs) ≡ j = length-take-le j xs (omega arith) in
-    let two = sets-append (take j xs) (getD xs j 0 ∷ []) l at in
-    sym (rw (add-one, take-suc xs j 0 h, two, n))
 
 -- ---- rows
 

@@ -1,5 +1,6 @@
 // The region table of a packing, written to lent numbers.
 use bits::refusal::Refusal;
+use lent::put;
 use regions::MOST;
 use regions::Packing;
 use regions::region::Region;
@@ -67,11 +68,7 @@ fn put_row(lent: &mut [u64], at: usize, row: [u64; 9])
     requires { ⌜ at + 9 ≤ length (now lent) ⌝ }
     ensures { λ _. ⌜ now (lent .exit) ≡ sets (now (lent .entry)) at row ⌝ }
 {
-    let mut j = 0;
-    while j < 9 {
-        lent[at + j] = row[j];
-        j += 1;
-    }
+    put(lent, at, &row);
 }
 
 // One row a region, for the first `count`, from `at` on.

@@ -6,7 +6,7 @@ use native.Mathlib.Omega.{arith}
 use borrow.Author.Needs.{needs}
 use lib.ListN.{length, length-set, take}
 use lib.Seq.{sets, take-all}
-use Rattle.rows.proofs.RowLaws.{sets-more}
+use Rattle.lent.proofs.Stores.{sets-more}
 use Rattle.fields.proofs.row.put_identifier.Statement.{statement}
 use Rattle.fields.proofs.row.put_identifier.Tie as tie
 

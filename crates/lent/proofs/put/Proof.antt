@@ -1,19 +1,19 @@
--- `fields::row::put` meets its contract: the numbers passed stand in their places, and nothing else is changed.
+-- `lent::put` meets its contract: the numbers passed stand in their places, and nothing else is changed.
 -- Assumes nothing.
 use Prim.Native.Nat.{_≤_, _-_}
 use mathlib.Core.Path.{_≡_, refl, _∙_}
 use native.Mathlib.Omega.{arith}
 use lib.ListN.{length, length-set, take}
 use lib.Seq.{sets, take-all}
-use Rattle.rows.proofs.RowLaws.{sets-more}
-use Rattle.fields.proofs.row.put.Statement.{statement}
-use Rattle.fields.proofs.row.put.Tie as tie
+use Rattle.lent.proofs.Stores.{sets-more}
+use Rattle.lent.proofs.put.Statement.{statement}
+use Rattle.lent.proofs.put.Tie as tie
 
 abbrev Inv-loop : tie.InvT-loop
-Inv-loop row₀ at from j₀ row j = (j ≤ length from) × (length row ≡ length row₀) × (row ≡ sets row₀ at (take j from))
+Inv-loop lent₀ at from j₀ lent j = (j ≤ length from) × (length lent ≡ length lent₀) × (lent ≡ sets lent₀ at (take j from))
 
 abbrev μ-loop : tie.MeasureT-loop
-μ-loop row₀ at from j₀ row j = length from - j
+μ-loop lent₀ at from j₀ lent j = length from - j
 
 loop-again : tie.Need-loop-again Inv-loop μ-loop
 loop-again c =
@@ -21,8 +21,8 @@ loop-again c =
     let args = at-loop .before .args in
     let inv = at-loop .loop .inv in (
       omega arith,
-      length-set (at-loop .loop .row) _ _ ∙ inv .1,
-      rw (inv .2) (sets-more (args .row .now) (args .from .now) (args .at) (at-loop .loop .j) (omega arith)),
+      length-set (at-loop .loop .lent) _ _ ∙ inv .1,
+      rw (inv .2) (sets-more (args .lent .now) (args .from .now) (args .at) (at-loop .loop .j) (omega arith)),
     )
 
 returns : tie.Need-returns Inv-loop μ-loop
