@@ -127,16 +127,9 @@ impl Answer {
     {
         match end {
             Ending::Extension(e) => {
-                let depth = Depth::zero();
-                let unregistered = Unregistered::zero();
-                Answer {
-                    outcome: Outcome::Taken,
-                    message: Message::RegionWise,
-                    extension: e,
-                    regions: value,
-                    depth,
-                    unregistered,
-                }
+                let mut answer = Answer::plain(Outcome::Taken, Message::RegionWise, e);
+                answer.regions = value;
+                answer
             }
             Ending::Refused(why) => Answer::refused(Kind::RegionWise, why),
         }
@@ -147,16 +140,9 @@ impl Answer {
     {
         match end {
             Ending::Extension(e) => {
-                let regions = Packing::zero();
-                let unregistered = Unregistered::zero();
-                Answer {
-                    outcome: Outcome::Taken,
-                    message: Message::Depth,
-                    extension: e,
-                    regions,
-                    depth: value,
-                    unregistered,
-                }
+                let mut answer = Answer::plain(Outcome::Taken, Message::Depth, e);
+                answer.depth = value;
+                answer
             }
             Ending::Refused(why) => Answer::refused(Kind::Depth, why),
         }
@@ -165,15 +151,8 @@ impl Answer {
     pub fn with_unregistered(value: Unregistered) -> Answer
         ensures { λ r. ⌜ r ≡ made Kind.Unregistered Outcome.Taken value 0 ⌝ }
     {
-        let regions = Packing::zero();
-        let depth = Depth::zero();
-        Answer {
-            outcome: Outcome::Taken,
-            message: Message::Unregistered,
-            extension: 0,
-            regions,
-            depth,
-            unregistered: value,
-        }
+        let mut answer = Answer::plain(Outcome::Taken, Message::Unregistered, 0);
+        answer.unregistered = value;
+        answer
     }
 }

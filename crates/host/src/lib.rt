@@ -1,6 +1,7 @@
 // What a C player calls to read a payload. A slice is a pointer and then a length; host/bruskelde.h has the C declarations.
 pub mod slot;
 
+use reader::payload::number;
 use reader::payload::read;
 use reader::user::Start;
 ghost use mathlib.Core.Path.{_≡_};
@@ -14,7 +15,7 @@ ghost use Rattle.host.specs.Part.{partOf};
 pub extern "C" fn bruskelde_read(kind: u64, size: u64, bytes: &[u8]) -> u32
     ensures { λ r. ⌜ r ≡ numberOf (answerTo kind size (now (bytes .entry))) ⌝ }
 {
-    read(kind, size, bytes).number()
+    number(kind, size, bytes)
 }
 
 // The same, and the fields of what was taken or set aside, written over the front of the row; 10 where they do not fit.

@@ -8,7 +8,7 @@ ghost use Prim.Native.Nat.{_≤_};
 ghost use lib.ListN.{length, take};
 ghost use Rattle.bits.specs.Bits.{Payload};
 ghost use Rattle.answers.specs.Listed.{readingOf};
-ghost use Rattle.answers.specs.Answer.{answerFor};
+ghost use Rattle.answers.specs.Answer.{numberOf, answerFor};
 ghost use Rattle.reader.specs.Reader.{answerTo};
 
 // The payload s of a listed kind.
@@ -26,6 +26,24 @@ fn of_kind(kind: Kind, s: &[u8]) -> Answer
         Kind::Depth => messages::depth(s),
         Kind::Registered => messages::registered(s),
         Kind::Unregistered => messages::unregistered(s),
+    }
+}
+
+// The same, by its number alone.
+fn number_of_kind(kind: Kind, s: &[u8]) -> u32
+    requires { ⌜ Payload (now s) ⌝ }
+    ensures { λ r. ⌜ r ≡ numberOf (answerFor kind (readingOf kind (now (s .entry)))) ⌝ }
+{
+    match kind {
+        Kind::FramePacking => messages::frame_packing(s).number(),
+        Kind::Orientation => messages::orientation(s).number(),
+        Kind::Equirectangular => messages::equirectangular(s).number(),
+        Kind::Rotation => messages::rotation(s).number(),
+        Kind::RegionWise => messages::region_wise(s).number(),
+        Kind::Alpha => messages::alpha(s).number(),
+        Kind::Depth => messages::depth(s).number(),
+        Kind::Registered => messages::registered(s).number(),
+        Kind::Unregistered => messages::unregistered(s).number(),
     }
 }
 
@@ -53,4 +71,22 @@ pub fn read(kind: u64, size: u64, bytes: &[u8]) -> Answer
         return Answer::refused(k, Refusal::size());
     }
     of_kind(k, front(bytes, n))
+}
+
+// The number of the answer, for a caller who wants no more: no record is copied on the way.
+pub fn number(kind: u64, size: u64, bytes: &[u8]) -> u32
+    ensures { λ r. ⌜ r ≡ numberOf (answerTo kind size (now (bytes .entry))) ⌝ }
+{
+    let named = Named::by(kind);
+    let Named::Listed(k) = named else {
+        return Refusal::kind().number();
+    };
+    if 8192 < size {
+        return Refusal::size().number();
+    }
+    let n = size as usize;
+    if bytes.len() < n {
+        return Refusal::size().number();
+    }
+    number_of_kind(k, front(bytes, n))
 }

@@ -4,9 +4,4 @@ use Rattle.answers.proofs.Answer.with_unregistered.Statement.{statement
 use Rattle.answers.proofs.Answer.with_unregistered.Tie as tie
 
 pub with-unregistered-spec : {M : Type 1} → statement M
-with-unregistered-spec =
-    tie.close
-    (tie.spec
-    (λ c κs. tt)
-    (λ c κs. tt)
-    (λ c. simp (c .zero2 .ensures, c .before .zero .ensures)))
+with-unregistered-spec = tie.close (tie.spec (λ c κs. tt) (λ c. rw (c .plain .ensures)))
