@@ -21,7 +21,7 @@ pub struct Flags {
 }
 
 impl Flags {
-    pub fn zero() -> Flags
+    pub(crate) fn zero() -> Flags
         ensures { λ r. ⌜ r ≡ noFlags ⌝ }
     {
         Flags {
@@ -35,14 +35,14 @@ impl Flags {
     }
 }
 
-pub enum FlagsRead {
+pub(crate) enum FlagsRead {
     Taken(Flags, Cursor),
     Refused(Refusal),
 }
 
 impl FlagsRead {
     // Why there are no flags; asked only where there are none.
-    pub fn refusal(self) -> Refusal
+    pub(crate) fn refusal(self) -> Refusal
         ensures { λ r. ⌜ r ≡ refusalIn (flagsAnswer self) ⌝ }
     {
         match self {
@@ -52,7 +52,7 @@ impl FlagsRead {
     }
 }
 
-pub fn read_flags(s: &[u8], c: Cursor) -> FlagsRead
+pub(crate) fn read_flags(s: &[u8], c: Cursor) -> FlagsRead
     requires { ⌜ Payload (now s) ⌝ }
     ensures { λ r. ⌜ flagsAnswer r ≡ runAt sixFlags (now (s .entry)) (c .at) ⌝ }
 {

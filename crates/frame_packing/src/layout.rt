@@ -29,7 +29,7 @@ pub struct Layout {
 }
 
 impl Layout {
-    pub fn zero() -> Layout
+    pub(crate) fn zero() -> Layout
         ensures { λ r. ⌜ r ≡ noLayout ⌝ }
     {
         Layout {
@@ -43,14 +43,14 @@ impl Layout {
     }
 }
 
-pub enum LayoutRead {
+pub(crate) enum LayoutRead {
     Taken(Layout, Cursor),
     Refused(Refusal),
 }
 
 impl LayoutRead {
     // Why there is no layout; asked only where there is none.
-    pub fn refusal(self) -> Refusal
+    pub(crate) fn refusal(self) -> Refusal
         ensures { λ r. ⌜ r ≡ refusalIn (layoutAnswer self) ⌝ }
     {
         match self {
@@ -60,7 +60,7 @@ impl LayoutRead {
     }
 }
 
-pub fn read_layout(s: &[u8], c: Cursor, cancel: u8) -> LayoutRead
+pub(crate) fn read_layout(s: &[u8], c: Cursor, cancel: u8) -> LayoutRead
     requires { ⌜ Payload (now s) ⌝ }
     ensures { λ r. ⌜ layoutAnswer r ≡ runAt (if eqb cancel 0 then arrangement else (done noLayout)) (now (s .entry)) (c .at) ⌝ }
 {

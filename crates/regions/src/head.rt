@@ -18,7 +18,7 @@ ghost use Rattle.format.specs.Syntax.{atLeast};
 ghost use Rattle.regions.specs.Head.{countable, head, pictures, headAnswer, picturesAnswer};
 
 // The number of regions: 5 where it is 0, 6 above the limit.
-pub fn read_count(s: &[u8], c: Cursor) -> ByteRead
+fn read_count(s: &[u8], c: Cursor) -> ByteRead
     requires { ⌜ Payload (now s) ⌝ }
     ensures { λ r. ⌜ byteAnswer r ≡ elementAt (coded (bitsOf 8) countable) (now (s .entry)) (c .at) ⌝ }
 {
@@ -36,7 +36,7 @@ pub fn read_count(s: &[u8], c: Cursor) -> ByteRead
 }
 
 // A size of the projected picture, at least 1.
-pub fn read_projected_size(s: &[u8], c: Cursor) -> Read
+fn read_projected_size(s: &[u8], c: Cursor) -> Read
     requires { ⌜ Payload (now s) ⌝ }
     ensures { λ r. ⌜ answer r ≡ elementAt (coded (bitsOf 32) (atLeast 1)) (now (s .entry)) (c .at) ⌝ }
 {
@@ -51,7 +51,7 @@ pub fn read_projected_size(s: &[u8], c: Cursor) -> Read
 }
 
 // A size of the packed picture, at least 1.
-pub fn read_packed_size(s: &[u8], c: Cursor) -> WordRead
+fn read_packed_size(s: &[u8], c: Cursor) -> WordRead
     requires { ⌜ Payload (now s) ⌝ }
     ensures { λ r. ⌜ wordAnswer r ≡ elementAt (coded (bitsOf 16) (atLeast 1)) (now (s .entry)) (c .at) ⌝ }
 {
@@ -66,20 +66,20 @@ pub fn read_packed_size(s: &[u8], c: Cursor) -> WordRead
 }
 
 // After the cancel flag.
-pub struct Head {
+pub(crate) struct Head {
     pub persistence: u8,
     pub matching: u8,
     pub count: u8,
 }
 
-pub enum HeadRead {
+pub(crate) enum HeadRead {
     Taken(Head, Cursor),
     Refused(Refusal),
 }
 
 impl HeadRead {
     // Why there is no head; asked only where there is none.
-    pub fn refusal(self) -> Refusal
+    pub(crate) fn refusal(self) -> Refusal
         ensures { λ r. ⌜ r ≡ refusalIn (headAnswer self) ⌝ }
     {
         match self {
@@ -89,7 +89,7 @@ impl HeadRead {
     }
 }
 
-pub fn read_head(s: &[u8], c: Cursor) -> HeadRead
+pub(crate) fn read_head(s: &[u8], c: Cursor) -> HeadRead
     requires { ⌜ Payload (now s) ⌝ }
     ensures { λ r. ⌜ headAnswer r ≡ runAt head (now (s .entry)) (c .at) ⌝ }
 {
@@ -120,20 +120,20 @@ pub fn read_head(s: &[u8], c: Cursor) -> HeadRead
 }
 
 // The sizes of the two pictures.
-pub struct Pictures {
+pub(crate) struct Pictures {
     pub projected_width: u32,
     pub projected_height: u32,
     pub packed_width: u16,
     pub packed_height: u16,
 }
 
-pub enum PicturesRead {
+pub(crate) enum PicturesRead {
     Taken(Pictures, Cursor),
     Refused(Refusal),
 }
 
 impl PicturesRead {
-    pub fn refusal(self) -> Refusal
+    pub(crate) fn refusal(self) -> Refusal
         ensures { λ r. ⌜ r ≡ refusalIn (picturesAnswer self) ⌝ }
     {
         match self {
@@ -143,7 +143,7 @@ impl PicturesRead {
     }
 }
 
-pub fn read_pictures(s: &[u8], c: Cursor) -> PicturesRead
+pub(crate) fn read_pictures(s: &[u8], c: Cursor) -> PicturesRead
     requires { ⌜ Payload (now s) ⌝ }
     ensures { λ r. ⌜ picturesAnswer r ≡ runAt pictures (now (s .entry)) (c .at) ⌝ }
 {

@@ -19,7 +19,7 @@ pub struct PackedArea {
 
 impl PackedArea {
     // The record of zeros.
-    pub fn zero() -> PackedArea
+    pub(crate) fn zero() -> PackedArea
         ensures { λ r. ⌜ r ≡ noPackedArea ⌝ }
     {
         PackedArea {
@@ -31,14 +31,14 @@ impl PackedArea {
     }
 }
 
-pub enum PackedRead {
+pub(crate) enum PackedRead {
     Taken(PackedArea, Cursor),
     Refused(Refusal),
 }
 
 impl PackedRead {
     // Why there is no area; asked only where there is none.
-    pub fn refusal(self) -> Refusal
+    pub(crate) fn refusal(self) -> Refusal
         ensures { λ r. ⌜ r ≡ refusalIn (packedAnswer self) ⌝ }
     {
         match self {
@@ -48,7 +48,7 @@ impl PackedRead {
     }
 }
 
-pub fn read_packed(s: &[u8], c: Cursor) -> PackedRead
+pub(crate) fn read_packed(s: &[u8], c: Cursor) -> PackedRead
     requires { ⌜ Payload (now s) ⌝ }
     ensures { λ r. ⌜ packedAnswer r ≡ runAt packedArea (now (s .entry)) (c .at) ⌝ }
 {

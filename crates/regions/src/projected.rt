@@ -19,7 +19,7 @@ pub struct ProjectedArea {
 
 impl ProjectedArea {
     // The record of zeros.
-    pub fn zero() -> ProjectedArea
+    pub(crate) fn zero() -> ProjectedArea
         ensures { λ r. ⌜ r ≡ noProjectedArea ⌝ }
     {
         ProjectedArea {
@@ -31,14 +31,14 @@ impl ProjectedArea {
     }
 }
 
-pub enum ProjectedRead {
+pub(crate) enum ProjectedRead {
     Taken(ProjectedArea, Cursor),
     Refused(Refusal),
 }
 
 impl ProjectedRead {
     // Why there is no area; asked only where there is none.
-    pub fn refusal(self) -> Refusal
+    pub(crate) fn refusal(self) -> Refusal
         ensures { λ r. ⌜ r ≡ refusalIn (projectedAnswer self) ⌝ }
     {
         match self {
@@ -48,7 +48,7 @@ impl ProjectedRead {
     }
 }
 
-pub fn read_projected(s: &[u8], c: Cursor) -> ProjectedRead
+pub(crate) fn read_projected(s: &[u8], c: Cursor) -> ProjectedRead
     requires { ⌜ Payload (now s) ⌝ }
     ensures { λ r. ⌜ projectedAnswer r ≡ runAt projectedArea (now (s .entry)) (c .at) ⌝ }
 {
