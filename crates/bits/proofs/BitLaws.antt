@@ -31,10 +31,6 @@ digit-rest zero h = refl
 digit-rest (suc zero) h = refl
 digit-rest (suc (suc r)) h = absurd (omega arith)
 
-pub digit-lt : (b : Bool) → digit b < 2
-digit-lt false = omega arith
-digit-lt true = omega arith
-
 -- a bit is the one whose digit is 1
 pub digit-one : (b : Bool) → digit b ≡ 1 → b ≡ true
 digit-one false e = absurd (omega arith)

@@ -5,6 +5,5 @@ pub mod Whole
 pub mod Steps
 pub mod Filling
 pub mod ReaderLaws
-pub mod CodedLaws
 pub mod Always
 pub mod Determined

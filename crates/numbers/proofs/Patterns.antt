@@ -130,10 +130,6 @@ a-number bits f = subst (λ (b : Bool). T (not b)) (nanBits-is binary64 bits) (n
 pub back : (bits : ℕ) → Finite bits → toBits binary64 (ofBits binary64 bits) ≡ bits
 back bits f = toBits-ofBits binary64 bits (omega arith) (a-number bits f)
 
--- so two floats that are equal were read off the same bits
-pub apart : (a b : ℕ) → Finite a → Finite b → ofBits binary64 a ≡ ofBits binary64 b → a ≡ b
-apart a b fa fb e = sym (back a fa) ∙ ap (toBits binary64) e ∙ back b fb
-
 zero-finite : Finite 0
 zero-finite =
     record {

@@ -1,13 +1,12 @@
--- Where the heads of user data end: on a byte of the payload, which is its first, second or sixteenth.
+-- Where the heads of user data end: one, two or sixteen bytes on.
 -- Assumes nothing.
-use Prim.Native.Nat.{ℕ, _+_, _-_, _*_, _/_, _≤_, _<_}
+use Prim.Native.Nat.{ℕ, _+_, _-_, _*_, _≤_, _<_}
 use mathlib.Core.Path.{_≡_, refl, sym, ap, _∙_}
 use mathlib.Core.Logic.{⊎-elim}
 use mathlib.Core.Bool.{Bool, true, false, cond}
 use mathlib.Core.List.{List}
 use native.Mathlib.Omega.{arith}
 use lib.Dec.{eqb}
-use lib.ListN.{length}
 use Rattle.bits.specs.Bits.{bitsIn}
 use Rattle.bits.specs.Out.{Out, taken, refused, after}
 use Rattle.bits.specs.Elements.{uAt}
@@ -18,7 +17,6 @@ use Rattle.bits.proofs.Reading.{not-taken}
 use Rattle.format.specs.Format.{Format, done, runAt, _>>=_}
 use Rattle.format.specs.Syntax.{u, if_then_else_}
 use Rattle.format.proofs.Steps.{step-done, step-code}
-use Rattle.format.proofs.Payload.{payload-taken}
 use Rattle.user_data.specs.Registered.{registered, headBytes}
 use Rattle.user_data.specs.Unregistered.{unregistered}
 use Rattle.user_data.specs.declared.registered.Registered.{Registered}
@@ -97,24 +95,3 @@ registered-end s p {a} {q} h =
     let t = rest-ends s (r .value) (r .at) (eqb (r .value) 255) (r .second) in
     joined (eqb (r .value) 255) p (r .at) q (u-ends s p 8 (r .first)) (t .1)
     ∙ ap (λ (code : ℕ). p + 8 * cond (eqb code 255) 2 1) (sym (t .0))
-
--- ---- of a payload
-
--- its first bytes are the head, which ended at bit q
-pub record Head (s : List ℕ) (bytes q : ℕ) : Type 0 where
-  pub bit : q ≡ 8 * bytes
-  pub byte : q / 8 ≡ bytes
-  pub inside : bytes ≤ length s
-
-head : {A : Type 0} (f : Format A) (s : List ℕ) (n : ℕ) {a : A} {q : ℕ} → runAt f s 0 ≡ taken a q → q ≡ 0 + 8 * n → Head s n q
-head f s n {a} {q} h e =
-    let i : q ≤ bitsIn s = payload-taken f s a q .0 h .0 in
-    record { bit = omega arith; byte = omega arith; inside = omega arith }
-
--- of kind 4: one byte, or two where the country code is 255
-pub registered-head : (s : List ℕ) {a : Registered} {q : ℕ} → runAt registered s 0 ≡ taken a q → Head s (headBytes a) q
-registered-head s {a} h = head registered s (headBytes a) h (registered-end s 0 h)
-
--- of kind 5: sixteen bytes
-pub unregistered-head : (s : List ℕ) {a : Unregistered} {q : ℕ} → runAt unregistered s 0 ≡ taken a q → Head s 16 q
-unregistered-head s h = head unregistered s 16 h (unregistered-end s 0 h)

@@ -18,7 +18,7 @@ use Rattle.regions.specs.declared.Packing.{Packing}
 use Rattle.regions.specs.declared.head.Head.{Head}
 use Rattle.regions.specs.declared.region.Region.{Region}
 use Rattle.regions.specs.declared.region.RegionsRead.{RegionsRead}
-use Rattle.format.proofs.CodedLaws.{taken-coded}
+use Rattle.format.proofs.Always.{always-taken}
 use Rattle.regions.proofs.Kept.{head-kept}
 use Rattle.regions.proofs.read.Statement.{statement}
 use Rattle.regions.proofs.read.Tie as tie
@@ -38,7 +38,7 @@ told r (refused t) e = ap (λ (r : RegionsRead). came (r .onward) (r .regions)) 
 
 -- a head that was taken has no more regions than a record has entries
 few : (s : List ℕ) (p : ℕ) {o : Out Head} {h : Head} {q : ℕ} → o ≡ runAt head s p → o ≡ taken h q → h .count ≤ most
-few s p {o} {h} e g = let d = taken-coded head s p (sym e ∙ g) in head-kept (d .0) h (d .1) .1
+few s p e g = always-taken head _ head-kept s p (sym e ∙ g) .1 .1
 
 abbrev at1 : (c : tie.After-byte) → At Packing (byteAnswer (c .byte .result))
 at1 c = let a = c .before .before .args in start (runAt packing (a .s .now) (a .c .at)) _ (c .byte .ensures) (opened _ _ ∙ step-code _ _ _ _)
