@@ -6,4 +6,5 @@ pub mod Steps
 pub mod Filling
 pub mod ReaderLaws
 pub mod Always
+pub mod Worked
 pub mod Determined

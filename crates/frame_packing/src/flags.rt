@@ -7,7 +7,7 @@ ghost use mathlib.Core.Path.{_≡_};
 ghost use Rattle.bits.specs.Bits.{Payload};
 ghost use Rattle.bits.specs.Out.{refusalIn};
 ghost use Rattle.format.specs.Format.{runAt};
-ghost use Rattle.frame_packing.specs.FramePacking.{noFlags, sixFlags};
+ghost use Rattle.frame_packing.specs.FramePacking.{sixFlags};
 ghost use Rattle.frame_packing.specs.Answers.{flagsAnswer};
 
 #[repr(C)]
@@ -18,21 +18,6 @@ pub struct Flags {
     pub current_is_frame0: u8,
     pub frame0_self_contained: u8,
     pub frame1_self_contained: u8,
-}
-
-impl Flags {
-    pub(crate) fn zero() -> Flags
-        ensures { λ r. ⌜ r ≡ noFlags ⌝ }
-    {
-        Flags {
-            spatial_flipping: 0,
-            frame0_flipped: 0,
-            field_views: 0,
-            current_is_frame0: 0,
-            frame0_self_contained: 0,
-            frame1_self_contained: 0,
-        }
-    }
 }
 
 pub(crate) enum FlagsRead {

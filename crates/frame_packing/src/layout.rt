@@ -36,7 +36,14 @@ impl Layout {
             arrangement_type: 0,
             quincunx: 0,
             content_interpretation: 0,
-            flags: Flags::zero(),
+            flags: Flags {
+                spatial_flipping: 0,
+                frame0_flipped: 0,
+                field_views: 0,
+                current_is_frame0: 0,
+                frame0_self_contained: 0,
+                frame1_self_contained: 0,
+            },
             grid: Grid::zero(),
             persistence: 0,
         }

@@ -9,7 +9,7 @@ ghost use mathlib.Core.Path.{_≡_};
 ghost use Rattle.bits.specs.Bits.{Payload};
 ghost use Rattle.bits.specs.Out.{refusalIn};
 ghost use Rattle.format.specs.Format.{runAt};
-ghost use Rattle.regions.specs.Bands.{guardTypes, guardBands, bandsWhere, noGuardTypes, noGuardBands, typesAnswer, bandsAnswer};
+ghost use Rattle.regions.specs.Bands.{guardTypes, guardBands, bandsWhere, noGuardBands, typesAnswer, bandsAnswer};
 
 // Reserved types, 4 to 7, are 0 here.
 #[repr(C)]
@@ -18,20 +18,6 @@ pub struct GuardTypes {
     pub type1: u8,
     pub type2: u8,
     pub type3: u8,
-}
-
-impl GuardTypes {
-    // The record of zeros.
-    pub(crate) fn zero() -> GuardTypes
-        ensures { λ r. ⌜ r ≡ noGuardTypes ⌝ }
-    {
-        GuardTypes {
-            type0: 0,
-            type1: 0,
-            type2: 0,
-            type3: 0,
-        }
-    }
 }
 
 pub(crate) enum TypesRead {
@@ -104,7 +90,12 @@ impl GuardBands {
             top_height: 0,
             bottom_height: 0,
             not_used: 0,
-            types: GuardTypes::zero(),
+            types: GuardTypes {
+                type0: 0,
+                type1: 0,
+                type2: 0,
+                type3: 0,
+            },
         }
     }
 }

@@ -7,7 +7,7 @@ ghost use mathlib.Core.Path.{_≡_};
 ghost use Rattle.bits.specs.Bits.{Payload};
 ghost use Rattle.bits.specs.Out.{refusalIn};
 ghost use Rattle.format.specs.Format.{runAt};
-ghost use Rattle.regions.specs.Packed.{packedArea, noPackedArea, packedAnswer};
+ghost use Rattle.regions.specs.Packed.{packedArea, packedAnswer};
 
 #[repr(C)]
 pub struct PackedArea {
@@ -15,20 +15,6 @@ pub struct PackedArea {
     pub height: u16,
     pub top: u16,
     pub left: u16,
-}
-
-impl PackedArea {
-    // The record of zeros.
-    pub(crate) fn zero() -> PackedArea
-        ensures { λ r. ⌜ r ≡ noPackedArea ⌝ }
-    {
-        PackedArea {
-            width: 0,
-            height: 0,
-            top: 0,
-            left: 0,
-        }
-    }
 }
 
 pub(crate) enum PackedRead {

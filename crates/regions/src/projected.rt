@@ -7,7 +7,7 @@ ghost use mathlib.Core.Path.{_≡_};
 ghost use Rattle.bits.specs.Bits.{Payload};
 ghost use Rattle.bits.specs.Out.{refusalIn};
 ghost use Rattle.format.specs.Format.{runAt};
-ghost use Rattle.regions.specs.Projected.{projectedArea, noProjectedArea, projectedAnswer};
+ghost use Rattle.regions.specs.Projected.{projectedArea, projectedAnswer};
 
 #[repr(C)]
 pub struct ProjectedArea {
@@ -15,20 +15,6 @@ pub struct ProjectedArea {
     pub height: u32,
     pub top: u32,
     pub left: u32,
-}
-
-impl ProjectedArea {
-    // The record of zeros.
-    pub(crate) fn zero() -> ProjectedArea
-        ensures { λ r. ⌜ r ≡ noProjectedArea ⌝ }
-    {
-        ProjectedArea {
-            width: 0,
-            height: 0,
-            top: 0,
-            left: 0,
-        }
-    }
 }
 
 pub(crate) enum ProjectedRead {

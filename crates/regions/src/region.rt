@@ -39,8 +39,18 @@ impl Region {
         Region {
             transform: 0,
             guarded: 0,
-            projected: ProjectedArea::zero(),
-            packed: PackedArea::zero(),
+            projected: ProjectedArea {
+                width: 0,
+                height: 0,
+                top: 0,
+                left: 0,
+            },
+            packed: PackedArea {
+                width: 0,
+                height: 0,
+                top: 0,
+                left: 0,
+            },
             guard: GuardBands::zero(),
         }
     }
