@@ -1,7 +1,7 @@
 -- `regions::region::read_regions` meets its contract. The loop's invariant: the list fills, and the next region stands at the cursor.
 -- Assumes nothing.
 use Prim.Native.Nat.{_-_}
-use mathlib.Core.Path.{_≡_, sym, ap, _∙_}
+use mathlib.Core.Path.{sym, ap, _∙_}
 use native.Mathlib.Omega.{arith}
 use borrow.Author.Needs.{needs}
 use Rattle.regions.specs.Region.{most, region, noRegion, regions, regionAnswer, regionsRead}
