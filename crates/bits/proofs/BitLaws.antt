@@ -66,13 +66,13 @@ unfolding part
 part-add s p zero m = rw (zero-add, add-zero)
 part-add s p (suc n) m = rw (suc-add, add-suc, ← (suc-add p n)) (ap (bitAt s p ∷_) (part-add s (suc p) n m))
 
-pub take-part : (s : List ℕ) (p n m : ℕ) → n ≤ m → take n (part s p m) ≡ part s p n
+take-part : (s : List ℕ) (p n m : ℕ) → n ≤ m → take n (part s p m) ≡ part s p n
 unfolding part
 take-part s p zero m h = refl
 take-part s p (suc n) zero h = absurd (omega arith)
 take-part s p (suc n) (suc m) h = ap (bitAt s p ∷_) (take-part s (suc p) n m (omega arith))
 
-pub drop-part : (s : List ℕ) (p n m : ℕ) → drop n (part s p m) ≡ part s (p + n) (m - n)
+drop-part : (s : List ℕ) (p n m : ℕ) → drop n (part s p m) ≡ part s (p + n) (m - n)
 unfolding part
 drop-part s p zero m = rw (add-zero, sub-zero)
 drop-part s p (suc n) zero = rw zero-sub

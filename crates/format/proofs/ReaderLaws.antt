@@ -23,7 +23,7 @@ use Rattle.bits.specs.Answers.{onwardRefusal}
 -- ---- an element's rule
 
 -- an element that was taken: its code was read, and its rule finds its meaning fine
-pub taken-from : (e : Element) (s : List ℕ) (p : ℕ) {m q : ℕ} → elementAt e s p ≡ taken m q → (c : ℕ) × (shapeAt (shape e) s p ≡ taken c q) × (meaning e c ≡ m) × (verdict e m ≡ fine)
+taken-from : (e : Element) (s : List ℕ) (p : ℕ) {m q : ℕ} → elementAt e s p ≡ taken m q → (c : ℕ) × (shapeAt (shape e) s p ≡ taken c q) × (meaning e c ≡ m) × (verdict e m ≡ fine)
 taken-from e s p {m} {q} h = from-code (shapeAt (shape e) s p) refl (sym (judged-at e s p) ∙ h)
   where
     by-verdict : (v : Verdict) (c t : ℕ) → shapeAt (shape e) s p ≡ taken c t → verdict e (meaning e c) ≡ v → ruled v (meaning e c) t ≡ taken m q
