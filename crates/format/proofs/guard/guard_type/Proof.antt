@@ -1,8 +1,8 @@
 -- `format::guard::guard_type` meets its contract: the code that was read, its meaning, and what the rule says of that.
 -- Assumes nothing.
 use Prim.Native.Nat.{ℕ, _≤_, _<_}
-use mathlib.Core.Path.{_≡_, refl, sym, ap, _∙_}
-use mathlib.Core.Bool.{Bool, true, false, _||_}
+use mathlib.Core.Path.{_≡_, sym, ap, _∙_}
+use mathlib.Core.Bool.{or-true}
 use native.Mathlib.Omega.{arith}
 use borrow.Author.Needs.{needs}
 use borrow.Author.Tests.{le-ltb, lt-ltb, ne-eqb, eq-eqb, le-leb}
@@ -19,12 +19,8 @@ use Rattle.format.proofs.guard.guard_type.Tie as tie
 abbrev said : ℕ → ℕ → ℕ → Out ℕ
 said n v q = let m = meaning (guardType (usable n)) v in ruled (usable n m) m q
 
-either-way : (b : Bool) → (b || true) ≡ true
-either-way true = refl
-either-way false = refl
-
 reserved-code : (n v q : ℕ) → 4 ≤ v → said n v q ≡ taken 4 q
-reserved-code n v q h = rw (le-ltb v 4 h, either-way)
+reserved-code n v q h = rw (le-ltb v 4 h, or-true)
 
 zero-code : (n v q : ℕ) → v ≡ 0 → (n ≡ 1 → ⊥) → said n v q ≡ refused Rule
 zero-code n v q h l = rw (h, ne-eqb n 1 l)
@@ -33,7 +29,7 @@ unused-code : (n v q : ℕ) → v < 4 → n ≡ 1 → said n v q ≡ taken v q
 unused-code n v q h l = rw (lt-ltb v 4 h, eq-eqb n 1 l)
 
 other-code : (n v q : ℕ) → v < 4 → (v ≡ 0 → ⊥) → said n v q ≡ taken v q
-other-code n v q h l = rw (lt-ltb v 4 h, le-leb 1 v (omega arith), either-way)
+other-code n v q h l = rw (lt-ltb v 4 h, le-leb 1 v (omega arith), or-true)
 
 returns : tie.Need-returns
 returns c = rw (c .enum-told .given .1) (sym (element-refused _ _ _ (c .before .before .byte .ensures) (ap byteAnswer (c .enum-told .given .1))))
