@@ -58,19 +58,19 @@ impl AlphaRead {
 }
 
 // The flags at the message's end.
-pub struct Flags {
+struct Flags {
     pub incr: u8,
     pub clip: u8,
     pub clip_type: u8,
 }
 
-pub enum FlagsRead {
+enum FlagsRead {
     Taken(Flags, Cursor),
     Refused(Refusal),
 }
 
 impl FlagsRead {
-    pub fn refusal(self) -> Refusal
+    fn refusal(self) -> Refusal
         ensures { λ r. ⌜ r ≡ refusalIn (flagsAnswer self) ⌝ }
     {
         match self {
@@ -80,7 +80,7 @@ impl FlagsRead {
     }
 }
 
-pub fn read_flags(s: &[u8], c: Cursor) -> FlagsRead
+fn read_flags(s: &[u8], c: Cursor) -> FlagsRead
     requires { ⌜ Payload (now s) ⌝ }
     ensures { λ r. ⌜ flagsAnswer r ≡ runAt flags (now (s .entry)) (c .at) ⌝ }
 {
@@ -117,7 +117,7 @@ pub fn read_flags(s: &[u8], c: Cursor) -> FlagsRead
 }
 
 // What follows a cancel flag of 0.
-pub fn read_information(s: &[u8], c: Cursor) -> AlphaRead
+fn read_information(s: &[u8], c: Cursor) -> AlphaRead
     requires { ⌜ Payload (now s) ⌝ }
     ensures { λ r. ⌜ answer r ≡ runAt information (now (s .entry)) (c .at) ⌝ }
 {

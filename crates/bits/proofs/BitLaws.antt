@@ -31,10 +31,6 @@ digit-rest zero h = refl
 digit-rest (suc zero) h = refl
 digit-rest (suc (suc r)) h = absurd (omega arith)
 
-pub digit-lt : (b : Bool) → digit b < 2
-digit-lt false = omega arith
-digit-lt true = omega arith
-
 -- a bit is the one whose digit is 1
 pub digit-one : (b : Bool) → digit b ≡ 1 → b ≡ true
 digit-one false e = absurd (omega arith)
@@ -70,13 +66,13 @@ unfolding part
 part-add s p zero m = rw (zero-add, add-zero)
 part-add s p (suc n) m = rw (suc-add, add-suc, ← (suc-add p n)) (ap (bitAt s p ∷_) (part-add s (suc p) n m))
 
-pub take-part : (s : List ℕ) (p n m : ℕ) → n ≤ m → take n (part s p m) ≡ part s p n
+take-part : (s : List ℕ) (p n m : ℕ) → n ≤ m → take n (part s p m) ≡ part s p n
 unfolding part
 take-part s p zero m h = refl
 take-part s p (suc n) zero h = absurd (omega arith)
 take-part s p (suc n) (suc m) h = ap (bitAt s p ∷_) (take-part s (suc p) n m (omega arith))
 
-pub drop-part : (s : List ℕ) (p n m : ℕ) → drop n (part s p m) ≡ part s (p + n) (m - n)
+drop-part : (s : List ℕ) (p n m : ℕ) → drop n (part s p m) ≡ part s (p + n) (m - n)
 unfolding part
 drop-part s p zero m = rw (add-zero, sub-zero)
 drop-part s p (suc n) zero = rw zero-sub

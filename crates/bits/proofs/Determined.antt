@@ -1,4 +1,5 @@
--- Each public function's contract determines its result: any two results that meet it, at the same arguments, are equal.
+-- The contract of each public function determines its result: any two results that meet it, at the same arguments, are equal.
+-- The public functions here are the elements, the tail, the refusals that are made and their numbers, and why an answer has no value.
 -- `Post` is a function's `ensures` as the check reads it off the source, so no contract is written a second time here.
 -- Assumes nothing.
 use Prim.Native.Nat.{ℕ, _-_}
@@ -12,6 +13,7 @@ use borrow.Fn.Kinds as kinds
 use Rattle.bits.specs.Out.{Out, taken, refused}
 use Rattle.bits.specs.Refusals.{numberOf}
 use Rattle.bits.specs.Answers.{answer, byteAnswer, wordAnswer}
+use Rattle.bits.specs.declared.cursor.Cursor.{Cursor}
 use Rattle.bits.specs.declared.refusal.Refusal.{Refusal}
 use Rattle.bits.specs.declared.refusal.Refusal.the-variants.{Kind, Size, Short, Zeros, Rule, Regions, Tail, Slot, Table, Rows}
 use Rattle.bits.specs.declared.read.Read.{Read}
@@ -20,12 +22,6 @@ use Rattle.bits.specs.declared.read.ByteRead.{ByteRead}
 use Rattle.bits.specs.declared.read.ByteRead.the-variants as byte
 use Rattle.bits.specs.declared.read.WordRead.{WordRead}
 use Rattle.bits.specs.declared.read.WordRead.the-variants as word
-use Rattle.bits.proofs.element.bit.Kinds as bit-kinds
-use Rattle.bits.proofs.element.bit.Reads as bit-reads
-use Rattle.bits.proofs.element.left.Kinds as left-kinds
-use Rattle.bits.proofs.element.left.Reads as left-reads
-use Rattle.bits.proofs.element.number.Kinds as number-kinds
-use Rattle.bits.proofs.element.number.Reads as number-reads
 use Rattle.bits.proofs.element.u.Kinds as u-kinds
 use Rattle.bits.proofs.element.u.Reads as u-reads
 use Rattle.bits.proofs.element.byte.Kinds as byte-kinds
@@ -81,43 +77,38 @@ DeterminesAll n ps r seen Post =
     → Post κs a y t
     → (x ≡ y) × (seen κs s ≡ seen κs t)
 
--- ---- each answer's meaning tells its cases apart: there is a way back
+-- ---- a meaning tells the cases of an answer apart where the answer can be had back from it
 
-pub told-by : {R X : Type 0} (meaning : R → X) (back : X → R) → ((r : R) → back (meaning r) ≡ r) → (r t : R) → meaning r ≡ meaning t → r ≡ t
+told-by : {R X : Type 0} (meaning : R → X) (back : X → R) → ((r : R) → back (meaning r) ≡ r) → (r t : R) → meaning r ≡ meaning t → r ≡ t
 told-by meaning back same r t e = sym (same r) ∙ ap back e ∙ same t
 
-pub read-told : (r t : Read) → answer r ≡ answer t → r ≡ t
-read-told = told-by answer back same
-  where
-    back : Out ℕ → Read
-    back (taken v q) = Value v (record { at = q })
-    back (refused r) = Refused r
+-- the answer of these two cases that means o
+abbrev pub made : {R A : Type 0} → (A → Cursor → R) → (Refusal → R) → Out A → R
+made value refuse (taken a q) = value a (record { at = q })
+made value refuse (refused r) = refuse r
 
-    same : (r : Read) → back (answer r) ≡ r
-    same (Value v c) = refl
-    same (Refused r) = refl
+-- of every enum of a value with its cursor, or a refusal
+pub told : {R A : Type 0} (meaning : R → Out A) (value : A → Cursor → R) (refuse : Refusal → R)
+    → ((r : R) → made value refuse (meaning r) ≡ r)
+    → (r t : R)
+    → meaning r ≡ meaning t
+    → r ≡ t
+told meaning value refuse = told-by meaning (made value refuse)
+
+had : (r : Read) → made Value Refused (answer r) ≡ r
+had (Value v c) = refl
+had (Refused r) = refl
+
+byte-had : (r : ByteRead) → made byte.Value byte.Refused (byteAnswer r) ≡ r
+byte-had (byte.Value v c) = refl
+byte-had (byte.Refused r) = refl
 
 pub byte-told : (r t : ByteRead) → byteAnswer r ≡ byteAnswer t → r ≡ t
-byte-told = told-by byteAnswer back same
-  where
-    back : Out ℕ → ByteRead
-    back (taken v q) = byte.Value v (record { at = q })
-    back (refused r) = byte.Refused r
+byte-told = told byteAnswer byte.Value byte.Refused byte-had
 
-    same : (r : ByteRead) → back (byteAnswer r) ≡ r
-    same (byte.Value v c) = refl
-    same (byte.Refused r) = refl
-
-pub word-told : (r t : WordRead) → wordAnswer r ≡ wordAnswer t → r ≡ t
-word-told = told-by wordAnswer back same
-  where
-    back : Out ℕ → WordRead
-    back (taken v q) = word.Value v (record { at = q })
-    back (refused r) = word.Refused r
-
-    same : (r : WordRead) → back (wordAnswer r) ≡ r
-    same (word.Value v c) = refl
-    same (word.Refused r) = refl
+word-had : (r : WordRead) → made word.Value word.Refused (wordAnswer r) ≡ r
+word-had (word.Value v c) = refl
+word-had (word.Refused r) = refl
 
 -- and the numbers tell the refusals apart: this list has each at its number
 refusals : List Refusal
@@ -141,26 +132,17 @@ refusal-told = told-by numberOf (λ n. getD refusals (n - 1) Kind) numbered
 
 -- ---- the public functions
 
-pub bit-determined : Determines 1 bit-kinds.ps bit-kinds.r bit-reads.Post
-bit-determined κs a x y s t p q = p ∙ sym q
-
-pub left-determined : Determines 1 left-kinds.ps left-kinds.r left-reads.Post
-left-determined κs a x y s t p q = p ∙ sym q
-
-pub number-determined : Determines 1 number-kinds.ps number-kinds.r number-reads.Post
-number-determined κs a x y s t p q = p ∙ sym q
-
 pub u-determined : Determines 1 u-kinds.ps u-kinds.r u-reads.Post
-u-determined κs a x y s t p q = read-told x y (p ∙ sym q)
+u-determined κs a x y s t p q = told answer Value Refused had x y (p ∙ sym q)
 
 pub byte-determined : Determines 1 byte-kinds.ps byte-kinds.r byte-reads.Post
 byte-determined κs a x y s t p q = byte-told x y (p ∙ sym q)
 
 pub word-determined : Determines 1 word-kinds.ps word-kinds.r word-reads.Post
-word-determined κs a x y s t p q = word-told x y (p ∙ sym q)
+word-determined κs a x y s t p q = told wordAnswer word.Value word.Refused word-had x y (p ∙ sym q)
 
 pub ue-determined : Determines 1 ue-kinds.ps ue-kinds.r ue-reads.Post
-ue-determined κs a x y s t p q = read-told x y (p ∙ sym q)
+ue-determined κs a x y s t p q = told answer Value Refused had x y (p ∙ sym q)
 
 pub signed-determined : Determines 0 signed-kinds.ps signed-kinds.r signed-reads.Post
 signed-determined κs a x y s t p q = p ∙ sym q

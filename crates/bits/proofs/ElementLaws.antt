@@ -87,7 +87,7 @@ leading-zero s p d h b = rw (from-cons s p h, b)
 -- ---- ue(v)
 
 -- after 32 zeros
-pub ue-zeros : (z k : ℕ) (w : List Bool) → leading k w ≡ k → ueAfter z k w ≡ refused Zeros
+ue-zeros : (z k : ℕ) (w : List Bool) → leading k w ≡ k → ueAfter z k w ≡ refused Zeros
 unfolding ueAfter leading
 ue-zeros z zero w e = refl
 ue-zeros z (suc k) [] e = absurd (omega arith)

@@ -11,13 +11,13 @@ use Rattle.bits.specs.Bits.{part, number}
 use Rattle.bits.specs.Identifier.{bytesOf}
 use Rattle.bits.proofs.BitLaws.{number-append, part-add, length-part, part-fits}
 
-pub length-bytes : (n v : ℕ) → length (bytesOf n v) ≡ n
+length-bytes : (n v : ℕ) → length (bytesOf n v) ≡ n
 unfolding bytesOf
 length-bytes zero v = refl
 length-bytes (suc n) v = length-append (bytesOf n (v / 256)) _ ∙ omega (arith, length-bytes n (v / 256))
 
 -- one byte more
-pub bytes-next : (s : List ℕ) (p i : ℕ) → bytesOf (i + 1) (number (part s p (8 * (i + 1)))) ≡ bytesOf i (number (part s p (8 * i))) ++ (number (part s (p + 8 * i) 8) ∷ [])
+bytes-next : (s : List ℕ) (p i : ℕ) → bytesOf (i + 1) (number (part s p (8 * (i + 1)))) ≡ bytesOf i (number (part s p (8 * i))) ++ (number (part s (p + 8 * i) 8) ∷ [])
 unfolding bytesOf
 bytes-next s p i =
     let h = number (part s p (8 * i)) in

@@ -33,7 +33,7 @@ unfolding part
 last-part-one s p k b = ap lastOne (part-add s p k 1) ∙ rw b (last-one (part s p k)) ∙ ap at (length-part s p k)
 
 -- the last one of w lies in w
-pub last-inside : (w : List Bool) {i : ℕ} → lastOne w ≡ at i → i < length w
+last-inside : (w : List Bool) {i : ℕ} → lastOne w ≡ at i → i < length w
 unfolding lastOne
 last-inside [] e = let z : _≡_ {A = ℕ} 0 1 = cc in absurd (omega arith)
 last-inside (b ∷ w) {i} e = go b (lastOne w) refl e (λ j h. last-inside w h)

@@ -12,7 +12,7 @@ ghost use Rattle.bits.specs.Answers.{answer, byteAnswer, wordAnswer};
 ghost use Rattle.bits.specs.Signed.{signedOf};
 
 // Bit i, as a number.
-pub fn bit(s: &[u8], i: usize) -> u32
+pub(crate) fn bit(s: &[u8], i: usize) -> u32
     requires { ⌜ i < bitsIn (now s) ⌝ }
     ensures { λ r. ⌜ r ≡ digit (bitAt (now (s .entry)) i) ⌝ }
 {
@@ -22,7 +22,7 @@ pub fn bit(s: &[u8], i: usize) -> u32
 }
 
 // How many bits there are from a position on.
-pub fn left(s: &[u8], at: usize) -> usize
+pub(crate) fn left(s: &[u8], at: usize) -> usize
     requires { ⌜ Payload (now s) ⌝ }
     ensures { λ r. ⌜ r ≡ bitsIn (now (s .entry)) - at ⌝ }
 {
@@ -31,7 +31,7 @@ pub fn left(s: &[u8], at: usize) -> usize
 }
 
 // The number that n bits make, all of which are there.
-pub fn number(s: &[u8], at: usize, n: usize) -> u32
+pub(crate) fn number(s: &[u8], at: usize, n: usize) -> u32
     requires { ⌜ Payload (now s) × (n ≤ bitsIn (now s) - at) × (n ≤ 32) ⌝ }
     ensures { λ r. ⌜ r ≡ numberOf (part (now (s .entry)) at n) ⌝ }
 {

@@ -23,7 +23,7 @@ pub struct DepthValue {
 
 impl DepthValue {
     // What stands where there is no element.
-    pub fn absent() -> DepthValue
+    pub(crate) fn absent() -> DepthValue
         ensures { λ r. ⌜ r ≡ absentValue ⌝ }
     {
         DepthValue {
@@ -36,14 +36,14 @@ impl DepthValue {
     }
 }
 
-pub enum ElementRead {
+pub(crate) enum ElementRead {
     Taken(DepthValue, Cursor),
     Refused(Refusal),
 }
 
 impl ElementRead {
     // Why there is no value; asked only where there is none.
-    pub fn refusal(self) -> Refusal
+    pub(crate) fn refusal(self) -> Refusal
         ensures { λ r. ⌜ r ≡ refusalIn (elementAnswer self) ⌝ }
     {
         match self {
@@ -54,7 +54,7 @@ impl ElementRead {
 }
 
 // The mantissa is there whatever the exponent.
-pub fn read_element(s: &[u8], c: Cursor) -> ElementRead
+fn read_element(s: &[u8], c: Cursor) -> ElementRead
     requires { ⌜ Payload (now s) ⌝ }
     ensures { λ r. ⌜ elementAnswer r ≡ runAt elementFormat (now (s .entry)) (c .at) ⌝ }
 {
@@ -88,7 +88,7 @@ pub fn read_element(s: &[u8], c: Cursor) -> ElementRead
 }
 
 // The element where its flag is 1.
-pub fn read_element_if(s: &[u8], c: Cursor, flag: u8) -> ElementRead
+pub(crate) fn read_element_if(s: &[u8], c: Cursor, flag: u8) -> ElementRead
     requires { ⌜ Payload (now s) ⌝ }
     ensures { λ r. ⌜ elementAnswer r ≡ runAt (elementIf flag) (now (s .entry)) (c .at) ⌝ }
 {

@@ -10,7 +10,7 @@ ghost use Rattle.bits.specs.Coding.{golomb};
 ghost use Rattle.format.specs.Format.{coded, elementAt};
 ghost use Rattle.format.specs.Syntax.{atMost};
 
-pub fn at_most(s: &[u8], c: Cursor, most: u32) -> Read
+pub(crate) fn at_most(s: &[u8], c: Cursor, most: u32) -> Read
     requires { ⌜ Payload (now s) ⌝ }
     ensures { λ r. ⌜ answer r ≡ elementAt (coded golomb (atMost most)) (now (s .entry)) (c .at) ⌝ }
 {

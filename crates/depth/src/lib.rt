@@ -1,7 +1,7 @@
 // Kind 177, depth representation information: its record and its reader.
 pub mod element;
-pub mod judged;
-pub mod model;
+mod judged;
+mod model;
 
 use crate::element::DepthValue;
 use crate::element::ElementRead;
@@ -61,7 +61,7 @@ impl Depth {
     }
 
     // The record of the message's parts.
-    pub fn of(
+    fn of(
         flags: Flags,
         representation_type: u8,
         ref_view_id: u32,
@@ -99,7 +99,7 @@ pub struct DepthRead {
 }
 
 impl DepthRead {
-    pub fn refused(why: Refusal) -> DepthRead
+    fn refused(why: Refusal) -> DepthRead
         ensures { λ r. ⌜ r ≡ depthRead (refusedOut why) ⌝ }
     {
         DepthRead {
@@ -110,21 +110,21 @@ impl DepthRead {
 }
 
 // Which of the four numbers are present.
-pub struct Flags {
+struct Flags {
     pub z_near_flag: u8,
     pub z_far_flag: u8,
     pub d_min_flag: u8,
     pub d_max_flag: u8,
 }
 
-pub enum FlagsRead {
+enum FlagsRead {
     Taken(Flags, Cursor),
     Refused(Refusal),
 }
 
 impl FlagsRead {
     // Why there is no value; asked only where there is none.
-    pub fn refusal(self) -> Refusal
+    fn refusal(self) -> Refusal
         ensures { λ r. ⌜ r ≡ refusalIn (flagsAnswer self) ⌝ }
     {
         match self {
@@ -134,7 +134,7 @@ impl FlagsRead {
     }
 }
 
-pub fn read_flags(s: &[u8], c: Cursor) -> FlagsRead
+fn read_flags(s: &[u8], c: Cursor) -> FlagsRead
     requires { ⌜ Payload (now s) ⌝ }
     ensures { λ r. ⌜ flagsAnswer r ≡ runAt flagsFormat (now (s .entry)) (c .at) ⌝ }
 {
@@ -166,7 +166,7 @@ pub fn read_flags(s: &[u8], c: Cursor) -> FlagsRead
 }
 
 // The reference view, which is there where a disparity is.
-pub fn read_ref_view(s: &[u8], c: Cursor, d_min_flag: u8, d_max_flag: u8) -> Read
+fn read_ref_view(s: &[u8], c: Cursor, d_min_flag: u8, d_max_flag: u8) -> Read
     requires { ⌜ Payload (now s) ⌝ }
     ensures { λ r. ⌜ answer r ≡ runAt (refView «d_min_flag» «d_max_flag») (now (s .entry)) (c .at) ⌝ }
 {
@@ -179,20 +179,20 @@ pub fn read_ref_view(s: &[u8], c: Cursor, d_min_flag: u8, d_max_flag: u8) -> Rea
 }
 
 // The four numbers.
-pub struct Values {
+struct Values {
     pub z_near: DepthValue,
     pub z_far: DepthValue,
     pub d_min: DepthValue,
     pub d_max: DepthValue,
 }
 
-pub enum ValuesRead {
+enum ValuesRead {
     Taken(Values, Cursor),
     Refused(Refusal),
 }
 
 impl ValuesRead {
-    pub fn refusal(self) -> Refusal
+    fn refusal(self) -> Refusal
         ensures { λ r. ⌜ r ≡ refusalIn (valuesAnswer self) ⌝ }
     {
         match self {
@@ -202,7 +202,7 @@ impl ValuesRead {
     }
 }
 
-pub fn read_values(s: &[u8], c: Cursor, flags: Flags) -> ValuesRead
+fn read_values(s: &[u8], c: Cursor, flags: Flags) -> ValuesRead
     requires { ⌜ Payload (now s) ⌝ }
     ensures { λ r. ⌜ valuesAnswer r ≡ runAt (valuesFormat flags) (now (s .entry)) (c .at) ⌝ }
 {

@@ -11,19 +11,19 @@ ghost use Rattle.bits.specs.Out.{refused as refusedOut};
 ghost use Rattle.format.specs.Format.{runAt};
 ghost use Rattle.depth.specs.Model.{numbers as numbersFormat, numbersRead, model as modelFormat, modelRead};
 
-pub struct Model {
+pub(crate) struct Model {
     pub count: u8,
     pub numbers: [u16; 63],
 }
 
 // The list, which is empty on a refusal, beside where the reading goes on.
-pub struct ModelRead {
+pub(crate) struct ModelRead {
     pub model: Model,
     pub onward: Onward,
 }
 
 impl ModelRead {
-    pub fn refused(why: Refusal) -> ModelRead
+    fn refused(why: Refusal) -> ModelRead
         ensures { λ r. ⌜ r ≡ modelRead (refusedOut why) ⌝ }
     {
         ModelRead {
@@ -37,13 +37,13 @@ impl ModelRead {
 }
 
 // The numbers, which are zeros on a refusal, beside where the reading goes on.
-pub struct NumbersRead {
+struct NumbersRead {
     pub numbers: [u16; 63],
     pub onward: Onward,
 }
 
 // As many numbers as count says.
-pub fn read_numbers(s: &[u8], c: Cursor, count: usize) -> NumbersRead
+fn read_numbers(s: &[u8], c: Cursor, count: usize) -> NumbersRead
     requires { ⌜ Payload (now s) × (count ≤ 63) ⌝ }
     ensures { λ r. ⌜ r ≡ numbersRead (runAt (numbersFormat count) (now (s .entry)) (c .at)) ⌝ }
 {
@@ -69,7 +69,7 @@ pub fn read_numbers(s: &[u8], c: Cursor, count: usize) -> NumbersRead
 }
 
 // The list is there only where the type is 3.
-pub fn read_model(s: &[u8], c: Cursor, representation_type: u8) -> ModelRead
+pub(crate) fn read_model(s: &[u8], c: Cursor, representation_type: u8) -> ModelRead
     requires { ⌜ Payload (now s) ⌝ }
     ensures { λ r. ⌜ r ≡ modelRead (runAt (modelFormat «representation_type») (now (s .entry)) (c .at)) ⌝ }
 {

@@ -13,20 +13,20 @@ ghost use Rattle.format.specs.Format.{done, runAt};
 ghost use Rattle.format.specs.Syntax.{if_then_else_};
 ghost use Rattle.equirectangular.specs.Equirectangular.{noBand, guardBand, bandAnswer};
 
-pub struct GuardBand {
+pub(crate) struct GuardBand {
     pub guard_type: u8,
     pub left_width: u8,
     pub right_width: u8,
 }
 
-pub enum GuardBandRead {
+pub(crate) enum GuardBandRead {
     Taken(GuardBand, Cursor),
     Refused(Refusal),
 }
 
 impl GuardBandRead {
     // Why there is no guard band; asked only where there is none.
-    pub fn refusal(self) -> Refusal
+    pub(crate) fn refusal(self) -> Refusal
         ensures { λ r. ⌜ r ≡ refusalIn (bandAnswer self) ⌝ }
     {
         match self {
@@ -38,7 +38,7 @@ impl GuardBandRead {
 
 // Zeros at the same cursor where the guard flag is not 1. Rule 5 is on the guard types "of kind 155": with the flag 1 `guard_type`
 // finds every code fine.
-pub fn guard_band(s: &[u8], c: Cursor, guarded: u8) -> GuardBandRead
+pub(crate) fn guard_band(s: &[u8], c: Cursor, guarded: u8) -> GuardBandRead
     requires { ⌜ Payload (now s) ⌝ }
     ensures { λ r. ⌜ bandAnswer r ≡ runAt (if eqb guarded 1 then guardBand else (done noBand)) (now (s .entry)) (c .at) ⌝ }
 {

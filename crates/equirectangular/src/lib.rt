@@ -11,7 +11,7 @@ ghost use Rattle.bits.specs.Out.{refusalIn};
 ghost use Rattle.format.specs.Format.{runAt};
 ghost use Rattle.equirectangular.specs.Equirectangular.{zeros, equirectangular, answer};
 
-pub mod band;
+mod band;
 
 #[repr(C)]
 pub struct Equirectangular {

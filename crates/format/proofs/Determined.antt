@@ -1,4 +1,4 @@
--- The public contracts determine their results.
+-- The contract of each public function determines its result: `guard_type` and `handed_out`.
 -- Assumes nothing.
 use mathlib.Core.Path.{sym, _∙_}
 use Rattle.bits.proofs.Determined.{Determines, byte-told}

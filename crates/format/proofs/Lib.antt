@@ -5,6 +5,6 @@ pub mod Whole
 pub mod Steps
 pub mod Filling
 pub mod ReaderLaws
-pub mod CodedLaws
 pub mod Always
+pub mod Worked
 pub mod Determined

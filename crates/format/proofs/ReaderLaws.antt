@@ -1,7 +1,7 @@
 -- Laws for readers over any format: elements with a rule, formats of one element, and answers of a value beside where the reading goes on.
 -- Assumes nothing.
-use Prim.Native.Nat.{ℕ, _≤_, _<_}
-use mathlib.Core.Path.{_≡_, refl, sym, ap, _∙_}
+use Prim.Native.Nat.{ℕ, _^_, _≤_, _<_}
+use mathlib.Core.Path.{_≡_, refl, sym, ap, _∙_, subst}
 use mathlib.Core.Bool.{Bool, true, false}
 use mathlib.Core.List.{List}
 use native.Mathlib.Omega.{arith}
@@ -9,10 +9,11 @@ use lib.Dec.{leb}
 use borrow.Author.Tests.{le-leb, lt-leb, leb-true}
 use Rattle.bits.specs.Refusals.{broken, Verdict, fine, against}
 use Rattle.bits.specs.Out.{Out, taken, refused, after, refusalIn}
-use Rattle.bits.specs.Coding.{Shape, shapeAt}
+use Rattle.bits.specs.Coding.{Shape, bits, shapeAt}
 use Rattle.bits.specs.declared.refusal.Refusal.the-variants.{Rule}
 use Rattle.bits.specs.declared.read.Onward.{Onward}
 use Rattle.bits.specs.declared.read.Onward.the-variants.{Next, Refused}
+use Rattle.bits.proofs.ElementLaws.{u-below}
 use Rattle.bits.proofs.Reading.{not-taken}
 use Rattle.format.specs.Format.{Element, coded, shape, meaning, verdict, ruled, elementAt, done, read, runAt}
 use Rattle.format.specs.Syntax.{any, _unless_, atMost}
@@ -21,17 +22,26 @@ use Rattle.bits.specs.Answers.{onwardRefusal}
 
 -- ---- an element's rule
 
--- the rule of an element that was taken finds its meaning fine
-pub taken-fine : (e : Element) (s : List ℕ) (p : ℕ) {m q : ℕ} → elementAt e s p ≡ taken m q → verdict e m ≡ fine
-taken-fine e s p {m} {q} h = from-code (shapeAt (shape e) s p) (sym (judged-at e s p) ∙ h)
+-- an element that was taken: its code was read, and its rule finds its meaning fine
+taken-from : (e : Element) (s : List ℕ) (p : ℕ) {m q : ℕ} → elementAt e s p ≡ taken m q → (c : ℕ) × (shapeAt (shape e) s p ≡ taken c q) × (meaning e c ≡ m) × (verdict e m ≡ fine)
+taken-from e s p {m} {q} h = from-code (shapeAt (shape e) s p) refl (sym (judged-at e s p) ∙ h)
   where
-    by-verdict : (v : Verdict) (n t : ℕ) → verdict e n ≡ v → ruled v n t ≡ taken m q → verdict e m ≡ fine
-    by-verdict fine n t k r = let same : n ≡ m = cc in ap (verdict e) (sym same) ∙ k
-    by-verdict (against b) n t k r = not-taken r
+    by-verdict : (v : Verdict) (c t : ℕ) → shapeAt (shape e) s p ≡ taken c t → verdict e (meaning e c) ≡ v → ruled v (meaning e c) t ≡ taken m q
+        → (c : ℕ) × (shapeAt (shape e) s p ≡ taken c q) × (meaning e c ≡ m) × (verdict e m ≡ fine)
+    by-verdict fine c t o k r =
+        let same : meaning e c ≡ m = cc in
+        let end : t ≡ q = cc in
+        (c, o ∙ ap (taken c) end, same, ap (verdict e) (sym same) ∙ k)
+    by-verdict (against b) c t o k r = not-taken r
 
-    from-code : (o : Out ℕ) → after o (λ c t. ruled (verdict e (meaning e c)) (meaning e c) t) ≡ taken m q → verdict e m ≡ fine
-    from-code (taken c t) r = by-verdict (verdict e (meaning e c)) (meaning e c) t refl r
-    from-code (refused x) r = not-taken r
+    from-code : (o : Out ℕ) → shapeAt (shape e) s p ≡ o → after o (λ c t. ruled (verdict e (meaning e c)) (meaning e c) t) ≡ taken m q
+        → (c : ℕ) × (shapeAt (shape e) s p ≡ taken c q) × (meaning e c ≡ m) × (verdict e m ≡ fine)
+    from-code (taken c t) o r = by-verdict (verdict e (meaning e c)) c t o refl r
+    from-code (refused x) o r = not-taken r
+
+-- a number of n bits is below 2 ^ n, whatever its rule
+pub taken-below : (n : ℕ) (rule : ℕ → Verdict) (s : List ℕ) (p : ℕ) {v q : ℕ} → elementAt (coded (bits n) rule) s p ≡ taken v q → v < 2 ^ n
+taken-below n rule s p e = let t = taken-from (coded (bits n) rule) s p e in subst (λ x. x < 2 ^ n) (t .2) (u-below s p n (t .1))
 
 -- at most n
 pub most-kept : (n v q : ℕ) → v ≤ n → ruled (atMost n v) v q ≡ taken v q
@@ -48,7 +58,7 @@ at-most-fine n x = go (leb x n) refl
     go false l e = let z : _≡_ {A = ℕ} 0 1 = cc in absurd (omega arith)
 
 pub at-most-kept : (h : Shape) (n : ℕ) (s : List ℕ) (p : ℕ) {v q : ℕ} → elementAt (coded h (atMost n)) s p ≡ taken v q → v ≤ n
-at-most-kept h n s p {v} e = at-most-fine n v (taken-fine (coded h (atMost n)) s p e)
+at-most-kept h n s p {v} e = at-most-fine n v (taken-from (coded h (atMost n)) s p e .3)
 
 -- ---- a format that is one element comes to what the element comes to
 

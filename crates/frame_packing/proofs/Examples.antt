@@ -9,188 +9,85 @@ use Rattle.bits.specs.Elements.{uFront, ueAfter}
 use Rattle.bits.specs.Out.{taken, refused}
 use Rattle.bits.specs.declared.refusal.Refusal.the-variants.{Short, Zeros}
 use Rattle.format.specs.Format.{elementFront, run, runAt}
+use Rattle.format.proofs.Worked.{Worked, row}
 use Rattle.frame_packing.specs.FramePacking.{noFlags, noGrid, noLayout, sixFlags, gridPositions, arrangement, framePacking}
 use Rattle.frame_packing.specs.SetAside.{reservedId, reservedType, reservedInterpretation, setAside}
 use Rattle.frame_packing.specs.declared.FramePacking.{FramePacking}
+use Rattle.frame_packing.specs.declared.flags.Flags.{Flags}
+use Rattle.frame_packing.specs.declared.grid.Grid.{Grid}
 
 -- ---- payloads
 
--- a cancel with a short id is three bits: id, cancel, upsampled
-cancelled : runAt framePacking (0xd0 ∷ []) 0 ≡ taken (record { id = 0; cancel = 1; layout = noLayout; «upsampled_aspect_ratio» = 0 }) 3
-unfolding framePacking runAt run elementFront ueAfter uFront from part number bitAt
-cancelled = refl
+-- a cancel: its id and its upsampled flag
+abbrev cancel-of : ℕ → ℕ → FramePacking
+cancel-of id upsampled = record { id = id; cancel = 1; layout = noLayout; «upsampled_aspect_ratio» = upsampled }
 
-sideBySide : FramePacking
-sideBySide =
+-- a message of id 0: type, quincunx, content interpretation, flags, grid, persistence, upsampled flag
+abbrev message-of : ℕ → ℕ → ℕ → Flags → Grid → ℕ → ℕ → FramePacking
+message-of t quincunx n flags grid persistence upsampled =
     record {
       id = 0;
       cancel = 0;
       layout =
-          record {
-            «arrangement_type» = 3;
-            quincunx = 0;
-            «content_interpretation» = 1;
-            flags = noFlags;
-            grid = noGrid;
-            persistence = 1;
-          };
-      «upsampled_aspect_ratio» = 0;
+          record { «arrangement_type» = t; quincunx = quincunx; «content_interpretation» = n; flags = flags; grid = grid; persistence = persistence };
+      «upsampled_aspect_ratio» = upsampled;
     }
 
-persists : runAt framePacking (0x81 ∷ 0x81 ∷ 0x00 ∷ 0x00 ∷ 0x00 ∷ 0x02 ∷ []) 0 ≡ taken sideBySide 48
-unfolding sideBySide framePacking arrangement sixFlags gridPositions runAt run elementFront ueAfter uFront from part number bitAt
-persists = refl
+abbrev flags-of : ℕ → ℕ → ℕ → ℕ → ℕ → ℕ → Flags
+flags-of a b c d e f =
+    record {
+      «spatial_flipping» = a;
+      «frame0_flipped» = b;
+      «field_views» = c;
+      «current_is_frame0» = d;
+      «frame0_self_contained» = e;
+      «frame1_self_contained» = f;
+    }
 
--- the reserved byte says nothing
-ignored : runAt framePacking (0x81 ∷ 0x81 ∷ 0x00 ∷ 0x00 ∷ 0x03 ∷ 0xfe ∷ []) 0 ≡ taken sideBySide 48
-unfolding sideBySide framePacking arrangement sixFlags gridPositions runAt run elementFront ueAfter uFront from part number bitAt
-ignored = refl
-
-short : runAt framePacking (0x00 ∷ 0x00 ∷ 0x00 ∷ []) 0 ≡ refused Short
+-- a short id: id, cancel and upsampled are three bits. The largest id. 24 zeros, and 32. Of id 7 and a cancel the upsampled flag lacks.
+cancels :
+    Worked framePacking
+    (row (0xd0 ∷ []) (taken (cancel-of 0 0) 3)
+    ∷ row (0x00 ∷ 0x00 ∷ 0x00 ∷ 0x01 ∷ 0xff ∷ 0xff ∷ 0xff ∷ 0xff ∷ 0x80 ∷ []) (taken (cancel-of 4294967294 1) 65)
+    ∷ row (0x00 ∷ 0x00 ∷ 0x00 ∷ []) (refused Short)
+    ∷ row (0x00 ∷ 0x00 ∷ 0x00 ∷ 0x00 ∷ []) (refused Zeros)
+    ∷ row (0x11 ∷ []) (refused Short)
+    ∷ [])
 unfolding framePacking runAt run elementFront ueAfter uFront from part number bitAt
-short = refl
+cancels = refl
 
-zeros-32 : runAt framePacking (0x00 ∷ 0x00 ∷ 0x00 ∷ 0x00 ∷ []) 0 ≡ refused Zeros
-unfolding framePacking runAt run elementFront ueAfter uFront from part number bitAt
-zeros-32 = refl
-
--- id 7 and a cancel, and the upsampled flag lacks
-short-cancel : runAt framePacking (0x11 ∷ []) 0 ≡ refused Short
-unfolding framePacking runAt run elementFront ueAfter uFront from part number bitAt
-short-cancel = refl
-
--- type 5 has no grid positions
-interleaved :
-    runAt framePacking (0x82 ∷ 0x81 ∷ 0x18 ∷ 0x01 ∷ []) 0
-    ≡ taken
-    (record {
-      id = 0;
-      cancel = 0;
-      layout =
-          record {
-            «arrangement_type» = 5;
-            quincunx = 0;
-            «content_interpretation» = 1;
-            flags =
-                record {
-                  «spatial_flipping» = 0;
-                  «frame0_flipped» = 0;
-                  «field_views» = 0;
-                  «current_is_frame0» = 1;
-                  «frame0_self_contained» = 1;
-                  «frame1_self_contained» = 0;
-                };
-            grid = noGrid;
-            persistence = 0;
-          };
-      «upsampled_aspect_ratio» = 1;
-    })
-    32
+-- Side by side; the same with other bits in the reserved byte. Type 5 has no grid positions, nor has quincunx sampling, with flags that
+-- 000 forbids to encoders; a reserved type has them.
+messages :
+    Worked framePacking
+    (row (0x81 ∷ 0x81 ∷ 0x00 ∷ 0x00 ∷ 0x00 ∷ 0x02 ∷ []) (taken (message-of 3 0 1 noFlags noGrid 1 0) 48)
+    ∷ row (0x81 ∷ 0x81 ∷ 0x00 ∷ 0x00 ∷ 0x03 ∷ 0xfe ∷ []) (taken (message-of 3 0 1 noFlags noGrid 1 0) 48)
+    ∷ row (0x82 ∷ 0x81 ∷ 0x18 ∷ 0x01 ∷ []) (taken (message-of 5 0 1 (flags-of 0 0 0 1 1 0) noGrid 0 1) 32)
+    ∷ row (0x81 ∷ 0xc2 ∷ 0x5a ∷ 0x97 ∷ []) (taken (message-of 3 1 2 (flags-of 0 1 0 1 1 0) noGrid 1 1) 32)
+    ∷ row (0xa6 ∷ 0x80 ∷ 0x80 ∷ 0x48 ∷ 0xd0 ∷ 0x02 ∷ [])
+    (taken (message-of 77 0 0 (flags-of 1 0 0 0 0 0) (record { «frame0_x» = 1; «frame0_y» = 2; «frame1_x» = 3; «frame1_y» = 4 }) 1 0) 48)
+    ∷ [])
 unfolding framePacking arrangement sixFlags gridPositions runAt run elementFront ueAfter uFront from part number bitAt
-interleaved = refl
-
--- nor has a message with quincunx sampling; flags that 000 forbids to encoders are handed out as coded
-quincunx-sampled :
-    runAt framePacking (0x81 ∷ 0xc2 ∷ 0x5a ∷ 0x97 ∷ []) 0
-    ≡ taken
-    (record {
-      id = 0;
-      cancel = 0;
-      layout =
-          record {
-            «arrangement_type» = 3;
-            quincunx = 1;
-            «content_interpretation» = 2;
-            flags =
-                record {
-                  «spatial_flipping» = 0;
-                  «frame0_flipped» = 1;
-                  «field_views» = 0;
-                  «current_is_frame0» = 1;
-                  «frame0_self_contained» = 1;
-                  «frame1_self_contained» = 0;
-                };
-            grid = noGrid;
-            persistence = 1;
-          };
-      «upsampled_aspect_ratio» = 1;
-    })
-    32
-unfolding framePacking arrangement sixFlags gridPositions runAt run elementFront ueAfter uFront from part number bitAt
-quincunx-sampled = refl
-
--- a reserved type has them
-reserved-type :
-    runAt framePacking (0xa6 ∷ 0x80 ∷ 0x80 ∷ 0x48 ∷ 0xd0 ∷ 0x02 ∷ []) 0
-    ≡ taken
-    (record {
-      id = 0;
-      cancel = 0;
-      layout =
-          record {
-            «arrangement_type» = 77;
-            quincunx = 0;
-            «content_interpretation» = 0;
-            flags =
-                record {
-                  «spatial_flipping» = 1;
-                  «frame0_flipped» = 0;
-                  «field_views» = 0;
-                  «current_is_frame0» = 0;
-                  «frame0_self_contained» = 0;
-                  «frame1_self_contained» = 0;
-                };
-            grid = record { «frame0_x» = 1; «frame0_y» = 2; «frame1_x» = 3; «frame1_y» = 4 };
-            persistence = 1;
-          };
-      «upsampled_aspect_ratio» = 0;
-    })
-    48
-unfolding framePacking arrangement sixFlags gridPositions runAt run elementFront ueAfter uFront from part number bitAt
-reserved-type = refl
-
--- the largest id
-largest-id :
-    runAt framePacking (0x00 ∷ 0x00 ∷ 0x00 ∷ 0x01 ∷ 0xff ∷ 0xff ∷ 0xff ∷ 0xff ∷ 0x80 ∷ []) 0
-    ≡ taken (record { id = 4294967294; cancel = 1; layout = noLayout; «upsampled_aspect_ratio» = 1 }) 65
-unfolding framePacking runAt run elementFront ueAfter uFront from part number bitAt
-largest-id = refl
+messages = refl
 
 -- ---- set aside
 
-abbrev cancel-of : ℕ → FramePacking
-cancel-of id = record { id = id; cancel = 1; layout = noLayout; «upsampled_aspect_ratio» = 0 }
-
 -- a message of a type and a content interpretation
-abbrev message-of : ℕ → ℕ → FramePacking
-message-of t n =
-    record {
-      id = 0;
-      cancel = 0;
-      layout =
-          record {
-            «arrangement_type» = t;
-            quincunx = 0;
-            «content_interpretation» = n;
-            flags = noFlags;
-            grid = noGrid;
-            persistence = 0;
-          };
-      «upsampled_aspect_ratio» = 0;
-    }
+abbrev typed : ℕ → ℕ → FramePacking
+typed t n = message-of t 0 n noFlags noGrid 0 0
 
-ids-kept : (setAside (cancel-of 0) ≡ false) × (setAside (cancel-of 255) ≡ false) × (setAside (cancel-of 512) ≡ false) × (setAside (cancel-of 2147483647) ≡ false)
+ids-kept : (setAside (cancel-of 0 0) ≡ false) × (setAside (cancel-of 255 0) ≡ false) × (setAside (cancel-of 512 0) ≡ false) × (setAside (cancel-of 2147483647 0) ≡ false)
 unfolding setAside reservedId
 ids-kept = (refl, refl, refl, refl)
 
-ids-aside : (setAside (cancel-of 256) ≡ true) × (setAside (cancel-of 511) ≡ true) × (setAside (cancel-of 2147483648) ≡ true) × (setAside (cancel-of 4294967294) ≡ true)
+ids-aside : (setAside (cancel-of 256 0) ≡ true) × (setAside (cancel-of 511 0) ≡ true) × (setAside (cancel-of 2147483648 0) ≡ true) × (setAside (cancel-of 4294967294 0) ≡ true)
 unfolding setAside reservedId
 ids-aside = (refl, refl, refl, refl)
 
-messages-kept : (setAside (message-of 3 0) ≡ false) × (setAside (message-of 4 1) ≡ false) × (setAside (message-of 5 2) ≡ false)
+messages-kept : (setAside (typed 3 0) ≡ false) × (setAside (typed 4 1) ≡ false) × (setAside (typed 5 2) ≡ false)
 unfolding setAside reservedId reservedType reservedInterpretation
 messages-kept = (refl, refl, refl)
 
-messages-aside : (setAside (message-of 2 0) ≡ true) × (setAside (message-of 6 0) ≡ true) × (setAside (message-of 3 3) ≡ true)
+messages-aside : (setAside (typed 2 0) ≡ true) × (setAside (typed 6 0) ≡ true) × (setAside (typed 3 3) ≡ true)
 unfolding setAside reservedId reservedType reservedInterpretation
 messages-aside = (refl, refl, refl)

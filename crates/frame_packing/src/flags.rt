@@ -7,7 +7,7 @@ ghost use mathlib.Core.Path.{_≡_};
 ghost use Rattle.bits.specs.Bits.{Payload};
 ghost use Rattle.bits.specs.Out.{refusalIn};
 ghost use Rattle.format.specs.Format.{runAt};
-ghost use Rattle.frame_packing.specs.FramePacking.{noFlags, sixFlags};
+ghost use Rattle.frame_packing.specs.FramePacking.{sixFlags};
 ghost use Rattle.frame_packing.specs.Answers.{flagsAnswer};
 
 #[repr(C)]
@@ -20,29 +20,14 @@ pub struct Flags {
     pub frame1_self_contained: u8,
 }
 
-impl Flags {
-    pub fn zero() -> Flags
-        ensures { λ r. ⌜ r ≡ noFlags ⌝ }
-    {
-        Flags {
-            spatial_flipping: 0,
-            frame0_flipped: 0,
-            field_views: 0,
-            current_is_frame0: 0,
-            frame0_self_contained: 0,
-            frame1_self_contained: 0,
-        }
-    }
-}
-
-pub enum FlagsRead {
+pub(crate) enum FlagsRead {
     Taken(Flags, Cursor),
     Refused(Refusal),
 }
 
 impl FlagsRead {
     // Why there are no flags; asked only where there are none.
-    pub fn refusal(self) -> Refusal
+    pub(crate) fn refusal(self) -> Refusal
         ensures { λ r. ⌜ r ≡ refusalIn (flagsAnswer self) ⌝ }
     {
         match self {
@@ -52,7 +37,7 @@ impl FlagsRead {
     }
 }
 
-pub fn read_flags(s: &[u8], c: Cursor) -> FlagsRead
+pub(crate) fn read_flags(s: &[u8], c: Cursor) -> FlagsRead
     requires { ⌜ Payload (now s) ⌝ }
     ensures { λ r. ⌜ flagsAnswer r ≡ runAt sixFlags (now (s .entry)) (c .at) ⌝ }
 {

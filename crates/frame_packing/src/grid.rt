@@ -21,7 +21,7 @@ pub struct Grid {
 }
 
 impl Grid {
-    pub fn zero() -> Grid
+    pub(crate) fn zero() -> Grid
         ensures { λ r. ⌜ r ≡ noGrid ⌝ }
     {
         Grid {
@@ -33,14 +33,14 @@ impl Grid {
     }
 }
 
-pub enum GridRead {
+pub(crate) enum GridRead {
     Taken(Grid, Cursor),
     Refused(Refusal),
 }
 
 impl GridRead {
     // Why there is no grid; asked only where there is none.
-    pub fn refusal(self) -> Refusal
+    pub(crate) fn refusal(self) -> Refusal
         ensures { λ r. ⌜ r ≡ refusalIn (gridAnswer self) ⌝ }
     {
         match self {
@@ -83,7 +83,7 @@ fn read_positions(s: &[u8], c: Cursor) -> GridRead
 }
 
 // A reserved type has positions too: only type 5 has none.
-pub fn read_grid(s: &[u8], c: Cursor, quincunx: u8, arrangement_type: u8) -> GridRead
+pub(crate) fn read_grid(s: &[u8], c: Cursor, quincunx: u8, arrangement_type: u8) -> GridRead
     requires { ⌜ Payload (now s) ⌝ }
     ensures { λ r. ⌜ gridAnswer r ≡ runAt (if gridCoded quincunx «arrangement_type» then gridPositions else (done noGrid)) (now (s .entry)) (c .at) ⌝ }
 {

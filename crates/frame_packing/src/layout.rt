@@ -29,28 +29,35 @@ pub struct Layout {
 }
 
 impl Layout {
-    pub fn zero() -> Layout
+    pub(crate) fn zero() -> Layout
         ensures { λ r. ⌜ r ≡ noLayout ⌝ }
     {
         Layout {
             arrangement_type: 0,
             quincunx: 0,
             content_interpretation: 0,
-            flags: Flags::zero(),
+            flags: Flags {
+                spatial_flipping: 0,
+                frame0_flipped: 0,
+                field_views: 0,
+                current_is_frame0: 0,
+                frame0_self_contained: 0,
+                frame1_self_contained: 0,
+            },
             grid: Grid::zero(),
             persistence: 0,
         }
     }
 }
 
-pub enum LayoutRead {
+pub(crate) enum LayoutRead {
     Taken(Layout, Cursor),
     Refused(Refusal),
 }
 
 impl LayoutRead {
     // Why there is no layout; asked only where there is none.
-    pub fn refusal(self) -> Refusal
+    pub(crate) fn refusal(self) -> Refusal
         ensures { λ r. ⌜ r ≡ refusalIn (layoutAnswer self) ⌝ }
     {
         match self {
@@ -60,7 +67,7 @@ impl LayoutRead {
     }
 }
 
-pub fn read_layout(s: &[u8], c: Cursor, cancel: u8) -> LayoutRead
+pub(crate) fn read_layout(s: &[u8], c: Cursor, cancel: u8) -> LayoutRead
     requires { ⌜ Payload (now s) ⌝ }
     ensures { λ r. ⌜ layoutAnswer r ≡ runAt (if eqb cancel 0 then arrangement else (done noLayout)) (now (s .entry)) (c .at) ⌝ }
 {

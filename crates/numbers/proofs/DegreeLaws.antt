@@ -15,9 +15,9 @@ use lib.Ieee.Back.{round-whole}
 use lib.Ieee.Scale.{round-same}
 use mir.Val.{SFits}
 use mir.Syntax.{w32}
-use Rattle.numbers.proofs.Patterns.{Finite, scaled-by-k, scaled-finite, scaled-is, value, back, apart}
+use Rattle.numbers.proofs.Patterns.{Finite, scaled-by-k, scaled-finite, scaled-is, value, back}
 use Rattle.numbers.specs.Floats.{pattern, scaledBits}
-use Rattle.numbers.specs.Degrees.{In32, signBit, degreeBits, degreesOf, noDegrees}
+use Rattle.numbers.specs.Degrees.{In32, signBit, degreeBits}
 
 -- ---- which numbers are meant
 
@@ -25,11 +25,6 @@ use Rattle.numbers.specs.Degrees.{In32, signBit, degreeBits, degreesOf, 
 pub every-i32 : (c : ℤ) → SFits w32 c → In32 c
 every-i32 (pos n) h = h .sfits
 every-i32 (negsuc n) h = h .sfits
-
--- and every number from -2^31 to 2^31 - 1 is a value of i32
-pub only-i32 : (c : ℤ) → In32 c → SFits w32 c
-only-i32 (pos n) h = record { sfits = h }
-only-i32 (negsuc n) h = record { sfits = h }
 
 size-fits : (c : ℤ) → In32 c → natAbs c < 2 ^ 53
 size-fits (pos n) h = omega arith
@@ -54,16 +49,6 @@ pub zero-bits : degreeBits (pos 0) ≡ 0
 unfolding degreeBits
 zero-bits = refl
 
--- bits of 0 are read as positive zero
-pub positive-zero : ofBits binary64 0 ≡ fin false 0 (pos 0)
-unfolding ofBits
-positive-zero = refl
-
--- no rotation is the rotation by three coded zeros
-pub none-is-zeros : noDegrees ≡ degreesOf (pos 0) (pos 0) (pos 0)
-unfolding degreeBits
-none-is-zeros = refl
-
 -- ---- the float's own bits
 
 -- every coded number's bits are a finite float's
@@ -74,10 +59,6 @@ degree-finite c h = scaled-finite (signBit c) 1007 (natAbs c) (sign-fits c) (ome
 -- the float that is read off them has those bits for its own
 pub degree-back : (c : ℤ) → In32 c → toBits binary64 (ofBits binary64 (degreeBits c)) ≡ degreeBits c
 degree-back c h = back (degreeBits c) (degree-finite c h)
-
--- so two coded numbers with different bits never give one float
-pub degree-apart : (a b : ℤ) → In32 a → In32 b → ofBits binary64 (degreeBits a) ≡ ofBits binary64 (degreeBits b) → degreeBits a ≡ degreeBits b
-degree-apart a b ha hb e = apart (degreeBits a) (degreeBits b) (degree-finite a ha) (degree-finite b hb) e
 
 -- ---- the value
 

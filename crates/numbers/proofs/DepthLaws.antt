@@ -1,4 +1,4 @@
--- The laws of a depth number: the paper's words for the bits, the exact number that they are read as, and the float's own bits.
+-- The laws of a depth number: the paper's words for the bits, and the exact number that they are read as.
 -- Each holds of every sign, length and mantissa, and every exponent below 127. `HasValue x s a c` says that x is a finite float, negative where
 -- s is true, whose size is a / c. Assumes nothing.
 use mathlib.Core.Path.{_≡_, refl, sym, ap, _∙_, subst}
@@ -6,15 +6,15 @@ use Prim.Native.Nat.{ℕ, zero, suc, _+_, _-_, _*_, _^_, _≤_, _<_}
 use native.Mathlib.Nat.{add-sub-cancel-left, lt-of-lt-of-le, mul-assoc, mul-comm, pow-succ'}
 use native.Mathlib.Omega.{arith}
 use mathlib.Core.Bool.{Bool, true, false, cond}
-use borrow.Author.Tests.{eqb-true, ne-eqb}
+use borrow.Author.Tests.{eqb-true}
 use lib.Dec.{eqb}
 use lib.IntN.{pos}
 use lib.Pow.{pow-add, pow-pos, pow-mono}
-use lib.Ieee.{fin, binary64, ofBits, toBits}
+use lib.Ieee.{fin, binary64, ofBits}
 use lib.Ieee.Exact.{HasValue}
-use Rattle.numbers.proofs.Patterns.{Finite, shifted, scaled-by-k, scaled-finite, Is, pattern-is, scaled-is, value, back, apart}
+use Rattle.numbers.proofs.Patterns.{Finite, shifted, scaled-by-k, scaled-finite, Is, pattern-is, scaled-is, value}
 use Rattle.numbers.specs.Floats.{pattern}
-use Rattle.numbers.specs.Depth.{DepthElement, Mantissa, depthBits, codedBits, depthNumber}
+use Rattle.numbers.specs.Depth.{DepthElement, Mantissa, depthBits, depthNumber}
 use Rattle.numbers.specs.declared.depth.DepthNumber.the-variants.{Absent, Unspecified, Number}
 
 -- ---- the paper's words
@@ -104,17 +104,6 @@ depth-finite s (suc e) v n m he =
       is = refl;
     }
 
--- the float that is read off them has those bits for its own
-pub depth-back : (s e v n : ℕ) → Mantissa s v n → e < 127 → toBits binary64 (ofBits binary64 (depthBits s e v n)) ≡ depthBits s e v n
-depth-back s e v n m he = back (depthBits s e v n) (depth-finite s e v n m he)
-
--- so two elements with different bits never give one float
-pub depth-apart : (s e v n s′ e′ v′ n′ : ℕ) → Mantissa s v n → e < 127 → Mantissa s′ v′ n′ → e′ < 127
-    → ofBits binary64 (depthBits s e v n) ≡ ofBits binary64 (depthBits s′ e′ v′ n′)
-    → depthBits s e v n ≡ depthBits s′ e′ v′ n′
-depth-apart s e v n s′ e′ v′ n′ m he m′ he′ eq =
-    apart (depthBits s e v n) (depthBits s′ e′ v′ n′) (depth-finite s e v n m he) (depth-finite s′ e′ v′ n′ m′ he′) eq
-
 -- ---- which elements are numbers
 
 -- exponent 127 is unspecified
@@ -128,11 +117,6 @@ unspecified-only-at-127 s e l n = go (eqb e 127) refl
     go : (b : Bool) → eqb e 127 ≡ b → cond b Unspecified (Number (ofBits binary64 (depthBits s e (l + 1) n))) ≡ Unspecified → e ≡ 127
     go true t h = eqb-true e 127 t
     go false t h = absurd (let z : _≡_ {A = ℕ} 0 1 = cc in omega arith)
-
--- below 127 the element is the number that the coded bits are read as
-pub number-below-127 : (s e l n : ℕ) → e < 127 → depthNumber s e l n ≡ Number (ofBits binary64 (codedBits s e l n))
-number-below-127 s e l n h =
-    let no : eqb e 127 ≡ false = ne-eqb e 127 (λ (q : e ≡ 127). omega arith) in simp no
 
 -- no element's parts are absent: that is its flag's to say
 pub never-absent : (s e l n : ℕ) → depthNumber s e l n ≡ Absent → ⊥

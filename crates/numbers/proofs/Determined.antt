@@ -1,13 +1,11 @@
--- Each public function's contract determines its result: any two results that meet it, at the same arguments, are equal.
--- `Post` is the function's `ensures` as the check reads it off the source, so no contract is written a second time here. Assumes nothing.
+-- The contract of each public function determines its result: `of` and `zero` of degrees, `degree_bits`, `depth_number` and `depth_bits`.
+-- Assumes nothing.
 use mathlib.Core.Path.{sym, _∙_}
 use Rattle.bits.proofs.Determined.{Determines}
 use Rattle.numbers.proofs.degrees.Degrees.of.Kinds as of-kinds
 use Rattle.numbers.proofs.degrees.Degrees.of.Reads as of-reads
 use Rattle.numbers.proofs.degrees.Degrees.zero.Kinds as zero-kinds
 use Rattle.numbers.proofs.degrees.Degrees.zero.Reads as zero-reads
-use Rattle.numbers.proofs.degrees.degree.Kinds as degree-kinds
-use Rattle.numbers.proofs.degrees.degree.Reads as degree-reads
 use Rattle.numbers.proofs.degrees.degree_bits.Kinds as degree-bits-kinds
 use Rattle.numbers.proofs.degrees.degree_bits.Reads as degree-bits-reads
 use Rattle.numbers.proofs.depth.depth_number.Kinds as depth-number-kinds
@@ -23,11 +21,7 @@ of-determined κs a x y s t p q = p ∙ sym q
 pub zero-determined : Determines 0 zero-kinds.ps zero-kinds.r zero-reads.Post
 zero-determined κs a x y s t p q = p ∙ sym q
 
--- a coded number has one float of degrees
-pub degree-determined : Determines 0 degree-kinds.ps degree-kinds.r degree-reads.Post
-degree-determined κs a x y s t p q = p ∙ sym q
-
--- and one pattern of 64 bits
+-- a coded number's degrees have one pattern of 64 bits
 pub degree-bits-determined : Determines 0 degree-bits-kinds.ps degree-bits-kinds.r degree-bits-reads.Post
 degree-bits-determined κs a x y s t p q = p ∙ sym q
 

@@ -65,7 +65,7 @@ module _ (f : Format) (s : Bool) (q k i d : ℕ) (wide : prec f ≡ suc (k + i))
       ∙ ap (λ (y : ℕ). y + (q - 2 ^ k) * 2 ^ i) (sym (pow-add 2 k i) ∙ ap (λ (y : ℕ). 2 ^ y) (omega arith))
 
   -- a finite value that is q * 2 ^ (i + d) of the smallest values, q having k + 1 digits: its field is d + 1
-  pub bits-at : (x : Float) → HasValue x s (q * 2 ^ (i + d)) (2 ^ low f) → toBits f x ≡ cond s (top f) 0 + (suc d * hid f + (q - 2 ^ k) * 2 ^ i)
+  bits-at : (x : Float) → HasValue x s (q * 2 ^ (i + d)) (2 ^ low f) → toBits f x ≡ cond s (top f) 0 + (suc d * hid f + (q - 2 ^ k) * 2 ^ i)
   bits-at x v =
       toBits-is f x s (q * 2 ^ (i + d)) v
       ∙ ap (λ (z : ℕ). cond s (top f) 0 + z * hid f + q * 2 ^ (i + d) / 2 ^ z) dropped

@@ -19,7 +19,7 @@ use Rattle.numbers.specs.Floats.{pattern, lead, scaledBits}
 -- ---- `lead n` is the k with 2 ^ k ≤ n < 2 ^ (k + 1)
 
 -- there is no other such k
-pub lead-is : (k n : ℕ) → 2 ^ k ≤ n → n < 2 ^ suc k → lead n ≡ k
+lead-is : (k n : ℕ) → 2 ^ k ≤ n → n < 2 ^ suc k → lead n ≡ k
 unfolding lead
 lead-is k n lo hi = ap (λ (z : ℕ). z - 1) (size-at k n lo hi) ∙ omega arith
 
@@ -32,11 +32,11 @@ some-size n = go (size (suc n)) (size-lt (suc n))
     go (suc z) h = omega arith
 
 -- n + 1 is at least 2 ^ k
-pub lead-lo : (n : ℕ) → 2 ^ lead (suc n) ≤ suc n
+lead-lo : (n : ℕ) → 2 ^ lead (suc n) ≤ suc n
 lead-lo n = size-reaches (suc n) (lead (suc n)) (let e : size (suc n) ≡ suc (lead (suc n)) = some-size n in omega arith)
 
 -- and below 2 ^ (k + 1)
-pub lead-hi : (n : ℕ) → suc n < 2 ^ suc (lead (suc n))
+lead-hi : (n : ℕ) → suc n < 2 ^ suc (lead (suc n))
 lead-hi n = subst (λ (z : ℕ). suc n < 2 ^ z) (some-size n) (size-lt (suc n))
 
 lead-le : (n j : ℕ) → suc n < 2 ^ suc j → lead (suc n) ≤ j
@@ -129,10 +129,6 @@ a-number bits f = subst (λ (b : Bool). T (not b)) (nanBits-is binary64 bits) (n
 -- and they are those that it was read off
 pub back : (bits : ℕ) → Finite bits → toBits binary64 (ofBits binary64 bits) ≡ bits
 back bits f = toBits-ofBits binary64 bits (omega arith) (a-number bits f)
-
--- so two floats that are equal were read off the same bits
-pub apart : (a b : ℕ) → Finite a → Finite b → ofBits binary64 a ≡ ofBits binary64 b → a ≡ b
-apart a b fa fb e = sym (back a fa) ∙ ap (toBits binary64) e ∙ back b fb
 
 zero-finite : Finite 0
 zero-finite =

@@ -36,7 +36,7 @@ impl Degrees {
 }
 
 // A coded number over 65,536. The cast and the quotient round nothing: a float holds 53 binary digits, and c has at most 32.
-pub fn degree(c: i32) -> f64
+fn degree(c: i32) -> f64
     ensures { λ r. ⌜ r ≡ ofBits binary64 (degreeBits c) ⌝ }
 {
     (c as f64) / 65536.0

@@ -1,10 +1,8 @@
--- The public contracts determine their results.
+-- The contract of each public function determines its result: `zero`, `refusal` and `read`.
 -- Assumes nothing.
 use mathlib.Core.Path.{_≡_, refl, sym, _∙_}
-use Rattle.bits.proofs.Determined.{Determines, told-by}
+use Rattle.bits.proofs.Determined.{Determines, told, made}
 use Rattle.orientation.specs.Orientation.{answer}
-use Rattle.bits.specs.Out.{Out, taken, refused}
-use Rattle.orientation.specs.declared.Orientation.{Orientation}
 use Rattle.orientation.specs.declared.OrientationRead.{OrientationRead}
 use Rattle.orientation.specs.declared.OrientationRead.the-variants.{Taken, Refused}
 use Rattle.orientation.proofs.Orientation.zero.Kinds as zero-kinds
@@ -14,16 +12,9 @@ use Rattle.orientation.proofs.OrientationRead.refusal.Reads as refusal-
 use Rattle.orientation.proofs.read.Kinds as read-kinds
 use Rattle.orientation.proofs.read.Reads as read-reads
 
-told : (r t : OrientationRead) → answer r ≡ answer t → r ≡ t
-told = told-by answer back same
-  where
-    back : Out Orientation → OrientationRead
-    back (taken a q) = Taken a (record { at = q })
-    back (refused r) = Refused r
-
-    same : (r : OrientationRead) → back (answer r) ≡ r
-    same (Taken a c) = refl
-    same (Refused r) = refl
+had : (r : OrientationRead) → made Taken Refused (answer r) ≡ r
+had (Taken a c) = refl
+had (Refused r) = refl
 
 pub zero-determined : Determines 0 zero-kinds.ps zero-kinds.r zero-reads.Post
 zero-determined κs a x y s t p q = p ∙ sym q
@@ -32,4 +23,4 @@ pub refusal-determined : Determines 0 refusal-kinds.ps refusal-kinds.r refusal-r
 refusal-determined κs a x y s t p q = p ∙ sym q
 
 pub read-determined : Determines 1 read-kinds.ps read-kinds.r read-reads.Post
-read-determined κs a x y s t p q = told x y (p ∙ sym q)
+read-determined κs a x y s t p q = told answer Taken Refused had x y (p ∙ sym q)

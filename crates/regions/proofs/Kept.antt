@@ -1,27 +1,21 @@
--- What holds of every record of kind 155 that is taken.
+-- What holds of every record of kind 155 that is coded.
 -- Assumes nothing.
 use Prim.Native.Nat.{ℕ, _-_, _≤_, _<_}
-use mathlib.Core.Path.{_≡_, refl, ap, _∙_, subst}
-use mathlib.Core.Logic.{_⊎_, inl, inr}
+use mathlib.Core.Path.{_≡_, refl}
 use mathlib.Core.Bool.{Bool, true, false}
 use mathlib.Core.List.{List}
 use native.Mathlib.Omega.{arith}
-use lib.Dec.{leb}
-use lib.ListN.{length, drop, replicate, length-append, length-replicate}
-use lib.Seq.{drop-at}
-use borrow.Author.Tests.{leb-true}
+use lib.Dec.{leb, eqb}
+use lib.ListN.{length, drop, replicate, length-replicate}
+use borrow.Author.Tests.{leb-true, eqb-false}
 use Rattle.bits.specs.Refusals.{Breach, broken, tooMany, fine, against}
-use Rattle.bits.specs.Out.{taken}
-use Rattle.format.specs.Format.{runAt}
 use Rattle.format.specs.Syntax.{_unless_, _or_}
 use Rattle.format.specs.Coded.{Coded}
-use Rattle.regions.specs.declared.head.Head.{Head}
+use Rattle.format.proofs.Always.{Always, Padded, code-below, always-part, always-if, always-any, always-listed, always-coded}
 use Rattle.regions.specs.declared.Packing.{Packing}
-use Rattle.regions.specs.Region.{most, region, noRegion}
-use Rattle.regions.specs.Head.{countable, head}
+use Rattle.regions.specs.Region.{most, region, regions, noRegion}
+use Rattle.regions.specs.Head.{countable, head, pictures}
 use Rattle.regions.specs.Packing.{packing}
-use Rattle.format.proofs.CodedLaws.{times-count, taken-coded}
-use Rattle.regions.proofs.Whole.{Alone, Carried, whole}
 
 -- ---- the count
 
@@ -36,11 +30,13 @@ counted v = go (leb 1 v) (leb v most) refl refl
     go true false e f h = against-fine h
     go false b e f h = against-fine h
 
-pub head-kept : (w : List Bool) (h : Head) → Coded head w h → (1 ≤ h .count) × (h .count ≤ most)
+pub head-kept : Always (λ h n. (1 ≤ h .count) × (h .count ≤ most)) head
 unfolding head
-head-kept w h d =
-    let l = d .follows .follows .follows in
-    subst (λ (x : Head). (1 ≤ x .count) × (x .count ≤ most)) (l .follows .1) (counted (l .code) (l .kept))
+head-kept = λ _ _ _ _. λ _ _ _ _. λ _ _ _ _. λ count _ _ fine. counted count fine
+
+list-kept : (n : ℕ) → n ≤ most → Always (λ rs l. Padded most noRegion n rs) (regions n)
+unfolding regions
+list-kept n h = always-listed most noRegion n region h
 
 -- ---- the record
 
@@ -54,38 +50,14 @@ pub record Kept (p : Packing) : Type 0 where
   pub entries : length (p .regions) ≡ most
   pub past : drop (p .count) (p .regions) ≡ replicate (most - p .count) noRegion
 
-kept-alone : (w : List Bool) (p : Packing) → Alone w p → Kept p
-kept-alone w p a =
-    subst Kept (a .is)
-    (record {
-      flag = a .flag;
-      some = λ z. absurd (a .set z);
-      few = omega arith;
-      entries = length-replicate most noRegion;
-      past = refl;
-    })
-
-kept-carried : (w : List Bool) (p : Packing) → Carried w p → Kept p
-kept-carried w p c =
-    let n = head-kept (c .w₁) (c .front) (c .first) in
-    let l : length (c .list) ≡ c .front .count = times-count region (c .front .count) (c .w₃) (c .list) (c .third) in
-    let r = length-replicate (most - length (c .list)) noRegion in
-    subst Kept (c .is)
-    (record {
-      flag = omega arith;
-      some = λ z. n .0;
-      few = n .1;
-      entries = length-append (c .list) (replicate (most - length (c .list)) noRegion) ∙ omega (arith, l, r, n .1);
-      past = drop-at (c .list) _ (c .front .count) l ∙ ap (λ k. replicate (most - k) noRegion) l;
-    })
+all-kept : Always (λ p n. Kept p) packing
+unfolding packing
+all-kept = λ cancel _ d _. always-if (eqb cancel 0) _ _ _
+    (λ t. always-part head _ _ _ head-kept λ h n k.
+    always-part pictures _ _ _ (always-any pictures) λ q m any.
+    always-part (regions (h .count)) _ _ _ (list-kept (h .count) (k .1)) λ rs l r.
+    record { flag = code-below d; some = λ z. k .0; few = k .1; entries = r .entries; past = r .past })
+    (λ t. record { flag = code-below d; some = λ z. absurd (eqb-false cancel 0 t z); few = omega arith; entries = length-replicate most noRegion; past = refl })
 
 pub kept : (w : List Bool) (p : Packing) → Coded packing w p → Kept p
-kept w p d = go (whole w p d)
-  where
-    go : Alone w p ⊎ Carried w p → Kept p
-    go (inl a) = kept-alone w p a
-    go (inr c) = kept-carried w p c
-
--- the same of what a reading from any bit on takes
-pub kept-taken : (s : List ℕ) (at : ℕ) {p : Packing} {q : ℕ} → runAt packing s at ≡ taken p q → Kept p
-kept-taken s at {p} h = let d = taken-coded packing s at h in kept (d .0) p (d .1)
+kept w p d = always-coded packing (λ p n. Kept p) all-kept w p d

@@ -1,5 +1,4 @@
 pub mod Judged
-pub mod Whole
 pub mod Kept
 pub mod Sizes
 pub mod Determined

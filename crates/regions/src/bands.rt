@@ -9,7 +9,7 @@ ghost use mathlib.Core.Path.{_≡_};
 ghost use Rattle.bits.specs.Bits.{Payload};
 ghost use Rattle.bits.specs.Out.{refusalIn};
 ghost use Rattle.format.specs.Format.{runAt};
-ghost use Rattle.regions.specs.Bands.{guardTypes, guardBands, bandsWhere, noGuardTypes, noGuardBands, typesAnswer, bandsAnswer};
+ghost use Rattle.regions.specs.Bands.{guardTypes, guardBands, bandsWhere, noGuardBands, typesAnswer, bandsAnswer};
 
 // Reserved types, 4 to 7, are 0 here.
 #[repr(C)]
@@ -20,28 +20,14 @@ pub struct GuardTypes {
     pub type3: u8,
 }
 
-impl GuardTypes {
-    // The record of zeros.
-    pub fn zero() -> GuardTypes
-        ensures { λ r. ⌜ r ≡ noGuardTypes ⌝ }
-    {
-        GuardTypes {
-            type0: 0,
-            type1: 0,
-            type2: 0,
-            type3: 0,
-        }
-    }
-}
-
-pub enum TypesRead {
+pub(crate) enum TypesRead {
     Taken(GuardTypes, Cursor),
     Refused(Refusal),
 }
 
 impl TypesRead {
     // Why there are no types; asked only where there are none.
-    pub fn refusal(self) -> Refusal
+    pub(crate) fn refusal(self) -> Refusal
         ensures { λ r. ⌜ r ≡ refusalIn (typesAnswer self) ⌝ }
     {
         match self {
@@ -52,7 +38,7 @@ impl TypesRead {
 }
 
 // Each of the four is judged as coded, and only then handed out.
-pub fn read_types(s: &[u8], c: Cursor, not_used: u8) -> TypesRead
+fn read_types(s: &[u8], c: Cursor, not_used: u8) -> TypesRead
     requires { ⌜ Payload (now s) ⌝ }
     ensures { λ r. ⌜ typesAnswer r ≡ runAt (guardTypes «not_used») (now (s .entry)) (c .at) ⌝ }
 {
@@ -95,7 +81,7 @@ pub struct GuardBands {
 }
 
 impl GuardBands {
-    pub fn zero() -> GuardBands
+    pub(crate) fn zero() -> GuardBands
         ensures { λ r. ⌜ r ≡ noGuardBands ⌝ }
     {
         GuardBands {
@@ -104,18 +90,23 @@ impl GuardBands {
             top_height: 0,
             bottom_height: 0,
             not_used: 0,
-            types: GuardTypes::zero(),
+            types: GuardTypes {
+                type0: 0,
+                type1: 0,
+                type2: 0,
+                type3: 0,
+            },
         }
     }
 }
 
-pub enum BandsRead {
+pub(crate) enum BandsRead {
     Taken(GuardBands, Cursor),
     Refused(Refusal),
 }
 
 impl BandsRead {
-    pub fn refusal(self) -> Refusal
+    pub(crate) fn refusal(self) -> Refusal
         ensures { λ r. ⌜ r ≡ refusalIn (bandsAnswer self) ⌝ }
     {
         match self {
@@ -125,7 +116,7 @@ impl BandsRead {
     }
 }
 
-pub fn read_bands(s: &[u8], c: Cursor) -> BandsRead
+fn read_bands(s: &[u8], c: Cursor) -> BandsRead
     requires { ⌜ Payload (now s) ⌝ }
     ensures { λ r. ⌜ bandsAnswer r ≡ runAt guardBands (now (s .entry)) (c .at) ⌝ }
 {
@@ -171,7 +162,7 @@ pub fn read_bands(s: &[u8], c: Cursor) -> BandsRead
 }
 
 // The guard bands of a region whose flag is 1; of any other, zeros and nothing read.
-pub fn read_bands_where(s: &[u8], c: Cursor, guarded: u8) -> BandsRead
+pub(crate) fn read_bands_where(s: &[u8], c: Cursor, guarded: u8) -> BandsRead
     requires { ⌜ Payload (now s) ⌝ }
     ensures { λ r. ⌜ bandsAnswer r ≡ runAt (bandsWhere guarded) (now (s .entry)) (c .at) ⌝ }
 {

@@ -3,22 +3,21 @@ use crate::MOST;
 use bits::cursor::Cursor;
 use bits::element::byte;
 use bits::element::u;
-use bits::element::word;
 use bits::read::ByteRead;
 use bits::read::Read;
-use bits::read::WordRead;
 use bits::refusal::Refusal;
 ghost use mathlib.Core.Path.{_≡_};
+ghost use Prim.Native.Nat.{_≤_};
 ghost use Rattle.bits.specs.Bits.{Payload};
 ghost use Rattle.bits.specs.Out.{refusalIn};
-ghost use Rattle.bits.specs.Answers.{answer, byteAnswer, wordAnswer};
+ghost use Rattle.bits.specs.Answers.{answer, byteAnswer};
 ghost use Rattle.bits.specs.Coding.{bits as bitsOf};
 ghost use Rattle.format.specs.Format.{coded, elementAt, runAt};
 ghost use Rattle.format.specs.Syntax.{atLeast};
 ghost use Rattle.regions.specs.Head.{countable, head, pictures, headAnswer, picturesAnswer};
 
 // The number of regions: 5 where it is 0, 6 above the limit.
-pub fn read_count(s: &[u8], c: Cursor) -> ByteRead
+fn read_count(s: &[u8], c: Cursor) -> ByteRead
     requires { ⌜ Payload (now s) ⌝ }
     ensures { λ r. ⌜ byteAnswer r ≡ elementAt (coded (bitsOf 8) countable) (now (s .entry)) (c .at) ⌝ }
 {
@@ -35,12 +34,12 @@ pub fn read_count(s: &[u8], c: Cursor) -> ByteRead
     r
 }
 
-// A size of the projected picture, at least 1.
-pub fn read_projected_size(s: &[u8], c: Cursor) -> Read
-    requires { ⌜ Payload (now s) ⌝ }
-    ensures { λ r. ⌜ answer r ≡ elementAt (coded (bitsOf 32) (atLeast 1)) (now (s .entry)) (c .at) ⌝ }
+// A size of a picture, of n bits: at least 1.
+fn read_size(s: &[u8], c: Cursor, n: u32) -> Read
+    requires { ⌜ Payload (now s) × (n ≤ 32) ⌝ }
+    ensures { λ r. ⌜ answer r ≡ elementAt (coded (bitsOf n) (atLeast 1)) (now (s .entry)) (c .at) ⌝ }
 {
-    let r = u(s, c, 32);
+    let r = u(s, c, n);
     let Read::Value(size, _) = r else {
         return r;
     };
@@ -50,36 +49,21 @@ pub fn read_projected_size(s: &[u8], c: Cursor) -> Read
     r
 }
 
-// A size of the packed picture, at least 1.
-pub fn read_packed_size(s: &[u8], c: Cursor) -> WordRead
-    requires { ⌜ Payload (now s) ⌝ }
-    ensures { λ r. ⌜ wordAnswer r ≡ elementAt (coded (bitsOf 16) (atLeast 1)) (now (s .entry)) (c .at) ⌝ }
-{
-    let r = word(s, c, 16);
-    let WordRead::Value(size, _) = r else {
-        return r;
-    };
-    if size == 0 {
-        return WordRead::Refused(Refusal::rule(c));
-    }
-    r
-}
-
 // After the cancel flag.
-pub struct Head {
+pub(crate) struct Head {
     pub persistence: u8,
     pub matching: u8,
     pub count: u8,
 }
 
-pub enum HeadRead {
+pub(crate) enum HeadRead {
     Taken(Head, Cursor),
     Refused(Refusal),
 }
 
 impl HeadRead {
     // Why there is no head; asked only where there is none.
-    pub fn refusal(self) -> Refusal
+    pub(crate) fn refusal(self) -> Refusal
         ensures { λ r. ⌜ r ≡ refusalIn (headAnswer self) ⌝ }
     {
         match self {
@@ -89,7 +73,7 @@ impl HeadRead {
     }
 }
 
-pub fn read_head(s: &[u8], c: Cursor) -> HeadRead
+pub(crate) fn read_head(s: &[u8], c: Cursor) -> HeadRead
     requires { ⌜ Payload (now s) ⌝ }
     ensures { λ r. ⌜ headAnswer r ≡ runAt head (now (s .entry)) (c .at) ⌝ }
 {
@@ -120,20 +104,20 @@ pub fn read_head(s: &[u8], c: Cursor) -> HeadRead
 }
 
 // The sizes of the two pictures.
-pub struct Pictures {
+pub(crate) struct Pictures {
     pub projected_width: u32,
     pub projected_height: u32,
     pub packed_width: u16,
     pub packed_height: u16,
 }
 
-pub enum PicturesRead {
+pub(crate) enum PicturesRead {
     Taken(Pictures, Cursor),
     Refused(Refusal),
 }
 
 impl PicturesRead {
-    pub fn refusal(self) -> Refusal
+    pub(crate) fn refusal(self) -> Refusal
         ensures { λ r. ⌜ r ≡ refusalIn (picturesAnswer self) ⌝ }
     {
         match self {
@@ -143,32 +127,32 @@ impl PicturesRead {
     }
 }
 
-pub fn read_pictures(s: &[u8], c: Cursor) -> PicturesRead
+pub(crate) fn read_pictures(s: &[u8], c: Cursor) -> PicturesRead
     requires { ⌜ Payload (now s) ⌝ }
     ensures { λ r. ⌜ picturesAnswer r ≡ runAt pictures (now (s .entry)) (c .at) ⌝ }
 {
-    let r1 = read_projected_size(s, c);
+    let r1 = read_size(s, c, 32);
     let Read::Value(projected_width, c1) = r1 else {
         return PicturesRead::Refused(r1.refusal());
     };
-    let r2 = read_projected_size(s, c1);
+    let r2 = read_size(s, c1, 32);
     let Read::Value(projected_height, c2) = r2 else {
         return PicturesRead::Refused(r2.refusal());
     };
-    let r3 = read_packed_size(s, c2);
-    let WordRead::Value(packed_width, c3) = r3 else {
+    let r3 = read_size(s, c2, 16);
+    let Read::Value(packed_width, c3) = r3 else {
         return PicturesRead::Refused(r3.refusal());
     };
-    let r4 = read_packed_size(s, c3);
-    let WordRead::Value(packed_height, c4) = r4 else {
+    let r4 = read_size(s, c3, 16);
+    let Read::Value(packed_height, c4) = r4 else {
         return PicturesRead::Refused(r4.refusal());
     };
     PicturesRead::Taken(
         Pictures {
             projected_width,
             projected_height,
-            packed_width,
-            packed_height,
+            packed_width: packed_width as u16,
+            packed_height: packed_height as u16,
         },
         c4,
     )

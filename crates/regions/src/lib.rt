@@ -1,6 +1,6 @@
 // Kind 155, region-wise packing: its record and its reader.
 pub mod bands;
-pub mod head;
+mod head;
 pub mod packed;
 pub mod projected;
 pub mod region;
@@ -49,7 +49,7 @@ impl Packing {
     }
 
     // The record of a message that carries its cancel flag alone.
-    pub fn only(cancel: u8) -> Packing
+    fn only(cancel: u8) -> Packing
         ensures { λ r. ⌜ r ≡ cancelled cancel ⌝ }
     {
         let regions = no_regions();
@@ -75,7 +75,7 @@ pub struct PackingRead {
 
 impl PackingRead {
     // A refusal, with zeros.
-    pub fn none(why: Refusal) -> PackingRead
+    fn none(why: Refusal) -> PackingRead
         ensures { λ r. ⌜ r ≡ packingRead (refused why) ⌝ }
     {
         let record = Packing::zero();

@@ -7,7 +7,7 @@ ghost use mathlib.Core.Path.{_≡_};
 ghost use Rattle.bits.specs.Bits.{Payload};
 ghost use Rattle.bits.specs.Out.{refusalIn};
 ghost use Rattle.format.specs.Format.{runAt};
-ghost use Rattle.regions.specs.Packed.{packedArea, noPackedArea, packedAnswer};
+ghost use Rattle.regions.specs.Packed.{packedArea, packedAnswer};
 
 #[repr(C)]
 pub struct PackedArea {
@@ -17,28 +17,14 @@ pub struct PackedArea {
     pub left: u16,
 }
 
-impl PackedArea {
-    // The record of zeros.
-    pub fn zero() -> PackedArea
-        ensures { λ r. ⌜ r ≡ noPackedArea ⌝ }
-    {
-        PackedArea {
-            width: 0,
-            height: 0,
-            top: 0,
-            left: 0,
-        }
-    }
-}
-
-pub enum PackedRead {
+pub(crate) enum PackedRead {
     Taken(PackedArea, Cursor),
     Refused(Refusal),
 }
 
 impl PackedRead {
     // Why there is no area; asked only where there is none.
-    pub fn refusal(self) -> Refusal
+    pub(crate) fn refusal(self) -> Refusal
         ensures { λ r. ⌜ r ≡ refusalIn (packedAnswer self) ⌝ }
     {
         match self {
@@ -48,7 +34,7 @@ impl PackedRead {
     }
 }
 
-pub fn read_packed(s: &[u8], c: Cursor) -> PackedRead
+pub(crate) fn read_packed(s: &[u8], c: Cursor) -> PackedRead
     requires { ⌜ Payload (now s) ⌝ }
     ensures { λ r. ⌜ packedAnswer r ≡ runAt packedArea (now (s .entry)) (c .at) ⌝ }
 {

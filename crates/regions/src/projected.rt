@@ -7,7 +7,7 @@ ghost use mathlib.Core.Path.{_≡_};
 ghost use Rattle.bits.specs.Bits.{Payload};
 ghost use Rattle.bits.specs.Out.{refusalIn};
 ghost use Rattle.format.specs.Format.{runAt};
-ghost use Rattle.regions.specs.Projected.{projectedArea, noProjectedArea, projectedAnswer};
+ghost use Rattle.regions.specs.Projected.{projectedArea, projectedAnswer};
 
 #[repr(C)]
 pub struct ProjectedArea {
@@ -17,28 +17,14 @@ pub struct ProjectedArea {
     pub left: u32,
 }
 
-impl ProjectedArea {
-    // The record of zeros.
-    pub fn zero() -> ProjectedArea
-        ensures { λ r. ⌜ r ≡ noProjectedArea ⌝ }
-    {
-        ProjectedArea {
-            width: 0,
-            height: 0,
-            top: 0,
-            left: 0,
-        }
-    }
-}
-
-pub enum ProjectedRead {
+pub(crate) enum ProjectedRead {
     Taken(ProjectedArea, Cursor),
     Refused(Refusal),
 }
 
 impl ProjectedRead {
     // Why there is no area; asked only where there is none.
-    pub fn refusal(self) -> Refusal
+    pub(crate) fn refusal(self) -> Refusal
         ensures { λ r. ⌜ r ≡ refusalIn (projectedAnswer self) ⌝ }
     {
         match self {
@@ -48,7 +34,7 @@ impl ProjectedRead {
     }
 }
 
-pub fn read_projected(s: &[u8], c: Cursor) -> ProjectedRead
+pub(crate) fn read_projected(s: &[u8], c: Cursor) -> ProjectedRead
     requires { ⌜ Payload (now s) ⌝ }
     ensures { λ r. ⌜ projectedAnswer r ≡ runAt projectedArea (now (s .entry)) (c .at) ⌝ }
 {

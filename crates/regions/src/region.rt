@@ -33,27 +33,37 @@ pub struct Region {
 
 impl Region {
     // The record of zeros.
-    pub fn zero() -> Region
+    fn zero() -> Region
         ensures { λ r. ⌜ r ≡ noRegion ⌝ }
     {
         Region {
             transform: 0,
             guarded: 0,
-            projected: ProjectedArea::zero(),
-            packed: PackedArea::zero(),
+            projected: ProjectedArea {
+                width: 0,
+                height: 0,
+                top: 0,
+                left: 0,
+            },
+            packed: PackedArea {
+                width: 0,
+                height: 0,
+                top: 0,
+                left: 0,
+            },
             guard: GuardBands::zero(),
         }
     }
 }
 
-pub enum RegionRead {
+enum RegionRead {
     Taken(Region, Cursor),
     Refused(Refusal),
 }
 
 impl RegionRead {
     // Why there is no region; asked only where there is none.
-    pub fn refusal(self) -> Refusal
+    fn refusal(self) -> Refusal
         ensures { λ r. ⌜ r ≡ refusalIn (regionAnswer self) ⌝ }
     {
         match self {
@@ -63,7 +73,7 @@ impl RegionRead {
     }
 }
 
-pub fn read_region(s: &[u8], c: Cursor) -> RegionRead
+fn read_region(s: &[u8], c: Cursor) -> RegionRead
     requires { ⌜ Payload (now s) ⌝ }
     ensures { λ r. ⌜ regionAnswer r ≡ runAt region (now (s .entry)) (c .at) ⌝ }
 {
@@ -104,20 +114,20 @@ pub fn read_region(s: &[u8], c: Cursor) -> RegionRead
 }
 
 // A message's regions, and zeros in every entry past them; zeros alone on a refusal.
-pub struct RegionsRead {
+pub(crate) struct RegionsRead {
     pub regions: [Region; MOST],
     pub onward: Onward,
 }
 
 // An entry for each region that a message may have, of zeros.
-pub fn no_regions() -> [Region; MOST]
+pub(crate) fn no_regions() -> [Region; MOST]
     ensures { λ r. ⌜ r ≡ noRegions ⌝ }
 {
     let none = Region::zero();
     [none; MOST]
 }
 
-pub fn read_regions(s: &[u8], c: Cursor, count: u8) -> RegionsRead
+pub(crate) fn read_regions(s: &[u8], c: Cursor, count: u8) -> RegionsRead
     requires { ⌜ Payload (now s) × (count ≤ most) ⌝ }
     ensures { λ r. ⌜ r ≡ regionsRead (runAt (regionsOf count) (now (s .entry)) (c .at)) ⌝ }
 {

@@ -1,16 +1,17 @@
 -- The payloads of 01 for kind 154, and the ends of its ranges.
 -- Assumes nothing.
 use Prim.Native.Nat.{ℕ}
-use mathlib.Core.Path.{_≡_, refl}
+use mathlib.Core.Path.{refl}
 use mathlib.Core.List.{List, [], _∷_}
 use lib.IntN.{ℤ, pos, negsuc}
 use lib.Ieee.{binary64, ofBits}
 use Rattle.bits.specs.Bits.{bitAt, part, from, number}
 use Rattle.bits.specs.Elements.{uFront}
-use Rattle.bits.specs.Out.{taken, refused}
+use Rattle.bits.specs.Out.{Out, taken, refused}
 use Rattle.bits.specs.Signed.{signedOf}
 use Rattle.bits.specs.declared.refusal.Refusal.the-variants.{Short, Rule}
 use Rattle.format.specs.Format.{elementFront, run, runAt}
+use Rattle.format.proofs.Worked.{Worked, row}
 use Rattle.numbers.specs.Degrees.{degreeBits}
 use Rattle.rotation.specs.Rotation.{angleIn, rotation}
 use Rattle.rotation.specs.declared.Rotation.{Rotation}
@@ -25,109 +26,68 @@ four a b c d rest = a ∷ b ∷ c ∷ d ∷ rest
 abbrev none : List ℕ → List ℕ
 none = four 0 0 0 0
 
--- persists, with these angles and the bits of their degrees
-abbrev rotated : (yaw : ℤ) (y : ℕ) (pitch : ℤ) (p : ℕ) (roll : ℤ) (r : ℕ) → Rotation
-rotated yaw y pitch p roll r =
+-- these flags and angles, with the bits of their degrees
+abbrev rotated : (cancel persistence : ℕ) → ℤ → ℕ → ℤ → ℕ → ℤ → ℕ → Rotation
+rotated cancel persistence yaw y pitch p roll r =
     record {
-      cancel = 0;
-      persistence = 1;
+      cancel = cancel;
+      persistence = persistence;
       yaw = yaw;
       pitch = pitch;
       roll = roll;
       degrees = record { yaw = ofBits binary64 y; pitch = ofBits binary64 p; roll = ofBits binary64 r };
     }
 
-abbrev cancelled : Rotation
-cancelled =
-    record {
-      cancel = 1;
-      persistence = 0;
-      yaw = pos 0;
-      pitch = pos 0;
-      roll = pos 0;
-      degrees = record { yaw = ofBits binary64 0; pitch = ofBits binary64 0; roll = ofBits binary64 0 };
-    }
+-- a cancel, of one bit; and a message that persists, of 13 bytes, with one angle that is not 0
+abbrev cancelled : Out Rotation
+cancelled = taken (rotated 1 0 (pos 0) 0 (pos 0) 0 (pos 0) 0) 1
 
--- a cancel is one bit: C0, 80 and FF differ in their tails
-cancel-c0 : runAt rotation (0xc0 ∷ []) 0 ≡ taken cancelled 1
-unfolding rotation angleIn runAt run elementFront uFront from part number bitAt signedOf degreeBits
-cancel-c0 = refl
+abbrev yawed : ℤ → ℕ → Out Rotation
+yawed z d = taken (rotated 0 1 z d (pos 0) 0 (pos 0) 0) 104
 
-cancel-80 : runAt rotation (0x80 ∷ []) 0 ≡ taken cancelled 1
-unfolding rotation angleIn runAt run elementFront uFront from part number bitAt signedOf degreeBits
-cancel-80 = refl
+abbrev pitched : ℤ → ℕ → Out Rotation
+pitched z d = taken (rotated 0 1 (pos 0) 0 z d (pos 0) 0) 104
 
-cancel-ff : runAt rotation (0xff ∷ []) 0 ≡ taken cancelled 1
-unfolding rotation angleIn runAt run elementFront uFront from part number bitAt signedOf degreeBits
-cancel-ff = refl
+abbrev rolled : ℤ → ℕ → Out Rotation
+rolled z d = taken (rotated 0 1 (pos 0) 0 (pos 0) 0 z d) 104
 
--- nothing
-empty : runAt rotation ([]) 0 ≡ refused Short
+-- C0, 80 and FF differ in their tails; nothing at all
+cancels : Worked rotation (row (0xc0 ∷ []) cancelled ∷ row (0x80 ∷ []) cancelled ∷ row (0xff ∷ []) cancelled ∷ row [] (refused Short) ∷ [])
 unfolding rotation angleIn runAt run elementFront uFront from part number bitAt signedOf degreeBits
-empty = refl
+cancels = refl
 
--- pitch 90 degrees, and one more than that
-pitch-90 : runAt rotation (message 0x40 none (four 0x00 0x5a 0x00 0x00) none) 0 ≡ taken (rotated (pos 0) 0 (pos 5_898_240) 0x4056_8000_0000_0000 (pos 0) 0) 104
+-- pitch from -90 degrees to 90, and one past each
+pitches :
+    Worked rotation
+    (row (message 0x40 none (four 0x00 0x5a 0x00 0x00) none) (pitched (pos 5_898_240) 0x4056_8000_0000_0000)
+    ∷ row (message 0x40 none (four 0x00 0x5a 0x00 0x01) none) (refused Rule)
+    ∷ row (message 0x40 none (four 0xff 0xa6 0x00 0x00) none) (pitched (negsuc 5_898_239) 0xc056_8000_0000_0000)
+    ∷ row (message 0x40 none (four 0xff 0xa5 0xff 0xff) none) (refused Rule)
+    ∷ [])
 unfolding rotation angleIn runAt run elementFront uFront from part number bitAt signedOf degreeBits
-pitch-90 = refl
+pitches = refl
 
-pitch-over : runAt rotation (message 0x40 none (four 0x00 0x5a 0x00 0x01) none) 0 ≡ refused Rule
+-- yaw, and roll, from -180 degrees to just below 180, and one past each
+turns :
+    Worked rotation
+    (row (message 0x40 (four 0xff 0x4c 0x00 0x00) none none) (yawed (negsuc 11_796_479) 0xc066_8000_0000_0000)
+    ∷ row (message 0x40 (four 0xff 0x4b 0xff 0xff) none none) (refused Rule)
+    ∷ row (message 0x40 (four 0x00 0xb3 0xff 0xff) none none) (yawed (pos 11_796_479) 0x4066_7fff_e000_0000)
+    ∷ row (message 0x40 (four 0x00 0xb4 0x00 0x00) none none) (refused Rule)
+    ∷ row (message 0x40 none none (four 0xff 0x4c 0x00 0x00)) (rolled (negsuc 11_796_479) 0xc066_8000_0000_0000)
+    ∷ row (message 0x40 none none (four 0xff 0x4b 0xff 0xff)) (refused Rule)
+    ∷ row (message 0x40 none none (four 0x00 0xb3 0xff 0xff)) (rolled (pos 11_796_479) 0x4066_7fff_e000_0000)
+    ∷ row (message 0x40 none none (four 0x00 0xb4 0x00 0x00)) (refused Rule)
+    ∷ [])
 unfolding rotation angleIn runAt run elementFront uFront from part number bitAt signedOf degreeBits
-pitch-over = refl
+turns = refl
 
--- pitch -90 degrees, and one less than that
-pitch-least : runAt rotation (message 0x40 none (four 0xff 0xa6 0x00 0x00) none) 0 ≡ taken (rotated (pos 0) 0 (negsuc 5_898_239) 0xc056_8000_0000_0000 (pos 0) 0) 104
+-- reserved bits say nothing; a rule is judged at its element, before a later one lacks; a roll that lacks a byte
+others :
+    Worked rotation
+    (row (message 0x7f none none none) (pitched (pos 0) 0)
+    ∷ row (message 0x40 (four 0x00 0xb4 0x00 0x00) (λ rest. rest) (λ rest. rest)) (refused Rule)
+    ∷ row (message 0x40 none none (λ rest. 0 ∷ 0 ∷ 0 ∷ rest)) (refused Short)
+    ∷ [])
 unfolding rotation angleIn runAt run elementFront uFront from part number bitAt signedOf degreeBits
-pitch-least = refl
-
-pitch-under : runAt rotation (message 0x40 none (four 0xff 0xa5 0xff 0xff) none) 0 ≡ refused Rule
-unfolding rotation angleIn runAt run elementFront uFront from part number bitAt signedOf degreeBits
-pitch-under = refl
-
--- yaw from -180 degrees to just below 180
-yaw-least : runAt rotation (message 0x40 (four 0xff 0x4c 0x00 0x00) none none) 0 ≡ taken (rotated (negsuc 11_796_479) 0xc066_8000_0000_0000 (pos 0) 0 (pos 0) 0) 104
-unfolding rotation angleIn runAt run elementFront uFront from part number bitAt signedOf degreeBits
-yaw-least = refl
-
-yaw-under : runAt rotation (message 0x40 (four 0xff 0x4b 0xff 0xff) none none) 0 ≡ refused Rule
-unfolding rotation angleIn runAt run elementFront uFront from part number bitAt signedOf degreeBits
-yaw-under = refl
-
-yaw-most : runAt rotation (message 0x40 (four 0x00 0xb3 0xff 0xff) none none) 0 ≡ taken (rotated (pos 11_796_479) 0x4066_7fff_e000_0000 (pos 0) 0 (pos 0) 0) 104
-unfolding rotation angleIn runAt run elementFront uFront from part number bitAt signedOf degreeBits
-yaw-most = refl
-
-yaw-over : runAt rotation (message 0x40 (four 0x00 0xb4 0x00 0x00) none none) 0 ≡ refused Rule
-unfolding rotation angleIn runAt run elementFront uFront from part number bitAt signedOf degreeBits
-yaw-over = refl
-
--- and roll likewise
-roll-least : runAt rotation (message 0x40 none none (four 0xff 0x4c 0x00 0x00)) 0 ≡ taken (rotated (pos 0) 0 (pos 0) 0 (negsuc 11_796_479) 0xc066_8000_0000_0000) 104
-unfolding rotation angleIn runAt run elementFront uFront from part number bitAt signedOf degreeBits
-roll-least = refl
-
-roll-under : runAt rotation (message 0x40 none none (four 0xff 0x4b 0xff 0xff)) 0 ≡ refused Rule
-unfolding rotation angleIn runAt run elementFront uFront from part number bitAt signedOf degreeBits
-roll-under = refl
-
-roll-most : runAt rotation (message 0x40 none none (four 0x00 0xb3 0xff 0xff)) 0 ≡ taken (rotated (pos 0) 0 (pos 0) 0 (pos 11_796_479) 0x4066_7fff_e000_0000) 104
-unfolding rotation angleIn runAt run elementFront uFront from part number bitAt signedOf degreeBits
-roll-most = refl
-
-roll-over : runAt rotation (message 0x40 none none (four 0x00 0xb4 0x00 0x00)) 0 ≡ refused Rule
-unfolding rotation angleIn runAt run elementFront uFront from part number bitAt signedOf degreeBits
-roll-over = refl
-
--- reserved bits say nothing
-ignored : runAt rotation (message 0x7f none none none) 0 ≡ taken (rotated (pos 0) 0 (pos 0) 0 (pos 0) 0) 104
-unfolding rotation angleIn runAt run elementFront uFront from part number bitAt signedOf degreeBits
-ignored = refl
-
--- a rule is judged at its element, before a later one lacks
-rule-first : runAt rotation (message 0x40 (four 0x00 0xb4 0x00 0x00) (λ rest. rest) (λ rest. rest)) 0 ≡ refused Rule
-unfolding rotation angleIn runAt run elementFront uFront from part number bitAt signedOf degreeBits
-rule-first = refl
-
-short : runAt rotation (message 0x40 none none (λ rest. 0 ∷ 0 ∷ 0 ∷ rest)) 0 ≡ refused Short
-unfolding rotation angleIn runAt run elementFront uFront from part number bitAt signedOf degreeBits
-short = refl
+others = refl

@@ -11,14 +11,14 @@ ghost use Rattle.format.specs.Format.{runAt};
 ghost use Rattle.format.specs.Syntax.{between};
 ghost use Rattle.rotation.specs.Rotation.{angleIn, angleAnswer};
 
-pub enum AngleRead {
+pub(crate) enum AngleRead {
     Value(i32, Cursor),
     Refused(Refusal),
 }
 
 impl AngleRead {
     // Why there is no angle; asked only where there is none.
-    pub fn refusal(self) -> Refusal
+    pub(crate) fn refusal(self) -> Refusal
         ensures { λ r. ⌜ r ≡ refusalIn (angleAnswer self) ⌝ }
     {
         match self {
@@ -29,7 +29,7 @@ impl AngleRead {
 }
 
 // An angle from `least` to `most`, both included.
-pub fn angle(s: &[u8], c: Cursor, least: i32, most: i32) -> AngleRead
+pub(crate) fn angle(s: &[u8], c: Cursor, least: i32, most: i32) -> AngleRead
     requires { ⌜ Payload (now s) ⌝ }
     ensures { λ r. ⌜ angleAnswer r ≡ runAt (angleIn (between least most)) (now (s .entry)) (c .at) ⌝ }
 {

@@ -12,7 +12,7 @@ ghost use Rattle.bits.specs.Out.{refusalIn};
 ghost use Rattle.format.specs.Format.{runAt};
 ghost use Rattle.rotation.specs.Rotation.{zeros, rotation, answer};
 
-pub mod angle;
+mod angle;
 
 // Yaw and roll, in units of 1 / 65,536 of a degree: from -180 degrees to just below 180.
 const TURN_LEAST: i32 = -11_796_480;

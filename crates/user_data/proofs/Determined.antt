@@ -1,10 +1,8 @@
--- The public contracts determine their results.
+-- The contract of each public function determines its result: `zero` and `read` of each kind, and the `refusal` of kind 4.
 -- Assumes nothing.
 use mathlib.Core.Path.{_≡_, refl, sym, _∙_}
-use Rattle.bits.specs.Out.{Out, taken, refused}
-use Rattle.bits.proofs.Determined.{Determines, told-by}
+use Rattle.bits.proofs.Determined.{Determines, told, made}
 use Rattle.user_data.specs.Registered.{answer}
-use Rattle.user_data.specs.declared.registered.Registered.{Registered}
 use Rattle.user_data.specs.declared.registered.RegisteredRead.{RegisteredRead}
 use Rattle.user_data.specs.declared.registered.RegisteredRead.the-variants.{Taken, Refused}
 use Rattle.user_data.proofs.registered.Registered.zero.Kinds as registered-zero-kinds
@@ -18,17 +16,9 @@ use Rattle.user_data.proofs.unregistered.Unregistered.zero.Reads as unr
 use Rattle.user_data.proofs.unregistered.read.Kinds as unregistered-kinds
 use Rattle.user_data.proofs.unregistered.read.Reads as unregistered-reads
 
--- the answer's meaning tells its cases apart
-told : (r t : RegisteredRead) → answer r ≡ answer t → r ≡ t
-told = told-by answer back same
-  where
-    back : Out Registered → RegisteredRead
-    back (taken a q) = Taken a (record { at = q })
-    back (refused r) = Refused r
-
-    same : (r : RegisteredRead) → back (answer r) ≡ r
-    same (Taken a c) = refl
-    same (Refused r) = refl
+had : (r : RegisteredRead) → made Taken Refused (answer r) ≡ r
+had (Taken a c) = refl
+had (Refused r) = refl
 
 pub registered-zero-determined : Determines 0 registered-zero-kinds.ps registered-zero-kinds.r registered-zero-reads.Post
 registered-zero-determined κs a x y s t p q = p ∙ sym q
@@ -37,7 +27,7 @@ pub refusal-determined : Determines 0 refusal-kinds.ps refusal-kinds.r refusal-r
 refusal-determined κs a x y s t p q = p ∙ sym q
 
 pub registered-determined : Determines 1 registered-kinds.ps registered-kinds.r registered-reads.Post
-registered-determined κs a x y s t p q = told x y (p ∙ sym q)
+registered-determined κs a x y s t p q = told answer Taken Refused had x y (p ∙ sym q)
 
 pub unregistered-zero-determined : Determines 0 unregistered-zero-kinds.ps unregistered-zero-kinds.r unregistered-zero-reads.Post
 unregistered-zero-determined κs a x y s t p q = p ∙ sym q

@@ -5,21 +5,28 @@ use mathlib.Core.List.{List}
 use mathlib.Core.Path.{_≡_, refl, sym, ap, _∙_}
 use native.Mathlib.Omega.{arith}
 use borrow.Author.Needs.{needs}
+use Rattle.bits.specs.Out.{Out, taken, refused}
 use Rattle.bits.specs.Coding.{golomb}
 use Rattle.bits.specs.Answers.{answer}
 use Rattle.format.specs.Format.{runAt}
 use Rattle.format.proofs.Steps.{step-done, step, step-part, At, start, next, last, stop}
-use Rattle.depth.specs.Model.{model}
+use Rattle.depth.specs.Model.{model, modelRead}
 use Rattle.depth.specs.Depth.{flags, flagsAnswer, refView, values, valuesAnswer, table, depth, depthRead}
 use Rattle.depth.specs.declared.Depth.{Depth}
+use Rattle.depth.specs.declared.model.Model.{Model}
+use Rattle.depth.specs.declared.model.ModelRead.{ModelRead}
 use Rattle.format.proofs.ReaderLaws.{at-most-kept, beside, stopped-beside}
-use Rattle.depth.proofs.Lists.{model-beside}
 use Rattle.depth.proofs.read.Statement.{statement}
 use Rattle.depth.proofs.read.Tie as tie
 
 opened : (s : List ℕ) (p : ℕ) → runAt depth s p ≡ runAt table s p
 unfolding depth
 opened s p = refl
+
+-- what the reader of the list answers, as what reading it comes to
+model-beside : {r : ModelRead} (o : Out Model) → r ≡ modelRead o → beside (r .onward) (r .model) ≡ o
+model-beside (taken a q) e = ap (λ (r : ModelRead). beside (r .onward) (r .model)) e
+model-beside (refused t) e = ap (λ (r : ModelRead). beside (r .onward) (r .model)) e
 
 abbrev at1 : (c : tie.After-read-flags) → At Depth (flagsAnswer (c .read-flags .result))
 at1 c = let a = c .before .before .args in start (runAt depth (a .s .now) (a .c .at)) _ (c .read-flags .ensures) (opened _ _ ∙ step-part flags _ _ _)

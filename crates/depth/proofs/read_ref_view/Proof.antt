@@ -4,7 +4,7 @@ use Prim.Native.Nat.{ℕ}
 use mathlib.Core.List.{List}
 use mathlib.Core.Path.{_≡_, refl, sym, _∙_}
 use mathlib.Core.Logic.{⊎-elim}
-use mathlib.Core.Bool.{Bool, true, false, _||_}
+use mathlib.Core.Bool.{true, false, _||_, or-true}
 use lib.Dec.{eqb}
 use borrow.Author.Needs.{needs}
 use borrow.Author.Tests.{eq-eqb, ne-eqb}
@@ -27,11 +27,7 @@ first : (m x : ℕ) → m ≡ 1 → (eqb m 1 || eqb x 1) ≡ true
 first m x h = rw (eq-eqb m 1 h)
 
 second : (m x : ℕ) → x ≡ 1 → (eqb m 1 || eqb x 1) ≡ true
-second m x h = rw (eq-eqb x 1 h) (either-way (eqb m 1))
-  where
-    either-way : (b : Bool) → (b || true) ≡ true
-    either-way true = refl
-    either-way false = refl
+second m x h = rw (eq-eqb x 1 h) (or-true (eqb m 1))
 
 returns : tie.Need-returns
 returns c = sym (opened _ _ _ _ ∙ step-no _ _ _ _ (neither _ _ (c .before .if1 .taken) (c .if2 .taken)) ∙ step-done _ _ _)

@@ -7,8 +7,6 @@ use borrow.Author.Needs.{needs}
 use borrow.Author.Tests.{eq-eqb, ne-eqb}
 use Rattle.bits.specs.Out.{Out, taken, refused, refusalIn}
 use Rattle.bits.specs.Answers.{byteAnswer}
-use Rattle.bits.specs.declared.read.Onward.{Onward}
-use Rattle.bits.specs.declared.read.Onward.the-variants.{Next, Refused}
 use Rattle.format.specs.Format.{runAt}
 use Rattle.format.proofs.Steps.{step-done, step-code, step-part, step-yes, step-no, At, start, next, last, stop}
 use Rattle.regions.specs.Region.{most, regions, regionsRead}
@@ -18,7 +16,8 @@ use Rattle.regions.specs.declared.Packing.{Packing}
 use Rattle.regions.specs.declared.head.Head.{Head}
 use Rattle.regions.specs.declared.region.Region.{Region}
 use Rattle.regions.specs.declared.region.RegionsRead.{RegionsRead}
-use Rattle.format.proofs.CodedLaws.{taken-coded}
+use Rattle.format.proofs.ReaderLaws.{beside}
+use Rattle.format.proofs.Always.{always-taken}
 use Rattle.regions.proofs.Kept.{head-kept}
 use Rattle.regions.proofs.read.Statement.{statement}
 use Rattle.regions.proofs.read.Tie as tie
@@ -28,17 +27,13 @@ unfolding packing
 opened s p = refl
 
 -- what the reader of the regions answers, as what reading them comes to
-abbrev came : Onward → List Region → Out (List Region)
-came (Next c) rs = taken rs (c .at)
-came (Refused r) rs = refused r
-
-told : (r : RegionsRead) (o : Out (List Region)) → r ≡ regionsRead o → came (r .onward) (r .regions) ≡ o
-told r (taken rs q) e = ap (λ (r : RegionsRead). came (r .onward) (r .regions)) e
-told r (refused t) e = ap (λ (r : RegionsRead). came (r .onward) (r .regions)) e
+list-beside : {r : RegionsRead} (o : Out (List Region)) → r ≡ regionsRead o → beside (r .onward) (r .regions) ≡ o
+list-beside (taken rs q) e = ap (λ (r : RegionsRead). beside (r .onward) (r .regions)) e
+list-beside (refused t) e = ap (λ (r : RegionsRead). beside (r .onward) (r .regions)) e
 
 -- a head that was taken has no more regions than a record has entries
 few : (s : List ℕ) (p : ℕ) {o : Out Head} {h : Head} {q : ℕ} → o ≡ runAt head s p → o ≡ taken h q → h .count ≤ most
-few s p {o} {h} e g = let d = taken-coded head s p (sym e ∙ g) in head-kept (d .0) h (d .1) .1
+few s p e g = always-taken head _ head-kept s p (sym e ∙ g) .1 .1
 
 abbrev at1 : (c : tie.After-byte) → At Packing (byteAnswer (c .byte .result))
 at1 c = let a = c .before .before .args in start (runAt packing (a .s .now) (a .c .at)) _ (c .byte .ensures) (opened _ _ ∙ step-code _ _ _ _)
@@ -51,13 +46,13 @@ at2 c =
 abbrev at3 : (c : tie.After-read-pictures) → At Packing (picturesAnswer (c .read-pictures .result))
 at3 c = next (at2 (c .before .before .before .before)) _ (ap headAnswer (c .before .before .r2 .given .1)) (c .read-pictures .ensures) (step-part _ _ _ _)
 
-abbrev at4 : (c : tie.After-read-regions) → At Packing (came (c .read-regions .result .onward) (c .read-regions .result .regions))
+abbrev at4 : (c : tie.After-read-regions) → At Packing (beside (c .read-regions .result .onward) (c .read-regions .result .regions))
 at4 c =
     let k = c .before .before in
     let h = k .before .before .before .before .r2 .given .0 .0 in
     let a = k .before .before .before .before .before .before .before .before .before .before .before .before .before .args in
     next (at3 (k .before .before)) _ (ap picturesAnswer (k .r3 .given .1))
-    (told (c .read-regions .result) (runAt (regions (h .count)) (a .s .now) (k .r3 .given .0 .1 .0 .at)) (c .read-regions .ensures))
+    (list-beside (runAt (regions (h .count)) (a .s .now) (k .r3 .given .0 .1 .0 .at)) (c .read-regions .ensures))
     (step-part _ _ _ _)
 
 asked : tie.Need-read-regions-requires
@@ -76,14 +71,14 @@ stopped : tie.Need-returns-5
 stopped c =
     let k = c .before .before .before in
     let l = k .read-regions .result in
-    let g = ap (λ x. came x (l .regions)) (c .before .enum-told5 .given .1) in
+    let g = ap (λ x. beside x (l .regions)) (c .before .enum-told5 .given .1) in
     rw (c .zero .ensures, c .before .enum-told5 .given .1) (ap packingRead (stop (at4 k) g (sym (ap refusalIn g))))
 
 carried : tie.Need-returns-6
 carried c =
     let k = c .before .before .before in
     let l = k .read-regions .result in
-    rw (c .before .enum-told4 .given .1) (ap packingRead (last (at4 k) (ap (λ x. came x (l .regions)) (c .before .enum-told4 .given .1)) (step-done _ _ _)))
+    rw (c .before .enum-told4 .given .1) (ap packingRead (last (at4 k) (ap (λ x. beside x (l .regions)) (c .before .enum-told4 .given .1)) (step-done _ _ _)))
 
 pub read-spec : {M : Type 1} → statement M
 read-spec =

@@ -9,20 +9,8 @@ use Rattle.bits.proofs.BitLaws.{digit-rest}
 use Rattle.bits.proofs.element.bit.Statement.{statement}
 use Rattle.bits.proofs.element.bit.Tie as tie
 
-shared-slice-read-byte : tie.Need-shared-slice-read-byte
-shared-slice-read-byte c = search needs
-
 cast-byte : tie.Need-cast-byte
 cast-byte c = omega (arith, c .shared-slice-known .given (c .before .args .i / 8))
-
-sub-below : tie.Need-sub-below
-sub-below c = search needs
-
-cast-below : tie.Need-cast-below
-cast-below c = search needs
-
-shr-result : tie.Need-shr-result
-shr-result c = search needs
 
 returns : tie.Need-returns
 unfolding bitAt
@@ -30,4 +18,4 @@ returns c = sym (digit-rest _ (omega arith))
 
 pub bit-spec : {M : Type 1} → statement M
 bit-spec =
-    tie.close (tie.spec shared-slice-read-byte cast-byte sub-below cast-below shr-result returns)
+    tie.close (tie.spec (λ c. search needs) cast-byte (λ c. search needs) (λ c. search needs) (λ c. search needs) returns)

@@ -23,23 +23,11 @@ mul-value c =
     let a = c .before .before .before .args in
     omega (arith, part-fits (a .s .now) (a .at) (c .before .loop .i) 31 (omega arith))
 
-add-bit : tie.Need-add-bit Inv-loop μ-loop
-add-bit c = omega arith
-
-bit-requires : tie.Need-bit-requires Inv-loop μ-loop
-bit-requires c κs = omega arith
-
 add-value : tie.Need-add-value Inv-loop μ-loop
 add-value c =
     let a = c .before .before .before .before .args in
     let i = c .before .before .loop .i in
     omega (arith, number-next (a .s .now) (a .at) i, part-fits (a .s .now) (a .at) (i + 1) 32 (omega arith))
-
-add-i : tie.Need-add-i Inv-loop μ-loop
-add-i c = omega arith
-
-loop-less : tie.Need-loop-less Inv-loop μ-loop
-loop-less c = omega arith
 
 loop-again : tie.Need-loop-again Inv-loop μ-loop
 loop-again c =
@@ -60,10 +48,10 @@ number-spec =
     μ-loop
     loop-holds
     mul-value
-    add-bit
-    bit-requires
+    (λ c. omega arith)
+    (λ c κs. omega arith)
     add-value
-    add-i
-    loop-less
+    (λ c. omega arith)
+    (λ c. omega arith)
     loop-again
     returns)

@@ -10,12 +10,6 @@ use Rattle.bits.specs.Signed.{signedOf}
 use Rattle.bits.proofs.element.signed.Statement.{statement}
 use Rattle.bits.proofs.element.signed.Tie as tie
 
-cast-result : tie.Need-cast-result
-cast-result c = search needs
-
-cast-result-2 : tie.Need-cast-result-2
-cast-result-2 c = search needs
-
 returns : tie.Need-returns
 unfolding signedOf
 returns c = simp (lt-ltb _ _ (c .if1 .taken))
@@ -28,4 +22,4 @@ returns-2 c =
     simp (e, le-ltb _ _ (c .if1 .left)) (ap negsuc (omega arith))
 
 pub signed-spec : {M : Type 1} → statement M
-signed-spec = tie.close (tie.spec cast-result cast-result-2 returns returns-2)
+signed-spec = tie.close (tie.spec (λ c. search needs) (λ c. search needs) returns returns-2)

@@ -18,14 +18,8 @@ few c =
     let a = c .before .before .before .args in
     omega (arith, leading-most 32 (from (a .s .now) (a .c .at)))
 
-zeros-requires : tie.Need-zeros-requires
-zeros-requires c κs = search needs
-
 returns : tie.Need-returns
 returns c = sym (ue-at-zeros _ _ (omega arith))
-
-cast-t11 : tie.Need-cast-t11
-cast-t11 c = search needs
 
 add-t12 : tie.Need-add-t12
 add-t12 c =
@@ -61,9 +55,9 @@ pub ue-spec : {M : Type 1} → statement M
 ue-spec =
     tie.close
     (tie.spec
-    zeros-requires
+    (λ c κs. search needs)
     returns
-    cast-t11
+    (λ c. search needs)
     add-t12
     add-u
     u-requires

@@ -16,33 +16,15 @@ Inv-loop s at end z₀ p₀ z p = (z ≤ 32) × (leading 32 (from s at) ≡ z + 
 abbrev μ-loop : tie.MeasureT-loop
 μ-loop s at end z₀ p₀ z p = 32 - z
 
-mul-end : tie.Need-mul-end Inv-loop μ-loop
-mul-end c = omega arith
-
-loop-holds : tie.Need-loop-holds Inv-loop μ-loop
-loop-holds c = omega arith
-
 returns : tie.Need-returns Inv-loop μ-loop
 returns c =
     let w = c .before .before in
     omega (arith, leading-end (w .before .before .args .s .now) (w .loop .p) (32 - w .loop .z) (omega arith))
 
-bit-requires : tie.Need-bit-requires Inv-loop μ-loop
-bit-requires c κs = omega arith
-
 returns-2 : tie.Need-returns-2 Inv-loop μ-loop
 returns-2 c =
     let w = c .before .before .before .before in
     omega (arith, leading-one (w .before .before .args .s .now) (w .loop .p) (32 - w .loop .z) (omega arith) (digit-one _ (sym (c .before .bit .ensures) ∙ c .if2 .taken)))
-
-add-z : tie.Need-add-z Inv-loop μ-loop
-add-z c = omega arith
-
-add-p : tie.Need-add-p Inv-loop μ-loop
-add-p c = omega arith
-
-loop-less : tie.Need-loop-less Inv-loop μ-loop
-loop-less c = omega arith
 
 loop-again : tie.Need-loop-again Inv-loop μ-loop
 loop-again c =
@@ -62,13 +44,13 @@ zeros-spec =
     (tie.spec
     Inv-loop
     μ-loop
-    mul-end
-    loop-holds
+    (λ c. omega arith)
+    (λ c. omega arith)
     returns
-    bit-requires
+    (λ c κs. omega arith)
     returns-2
-    add-z
-    add-p
-    loop-less
+    (λ c. omega arith)
+    (λ c. omega arith)
+    (λ c. omega arith)
     loop-again
     returns-3)

@@ -25,9 +25,6 @@ turn c =
     let k : w .loop .k ≡ w .loop .k - 1 + 1 = omega arith in
     w .loop .inv .1 ∙ ap (λ n. judged (w .before .before .left .result) (lastOne (part (a .s .now) (a .c .at) n))) k
 
-left-requires : tie.Need-left-requires Inv-loop μ-loop
-left-requires c κs = omega arith
-
 returns : tie.Need-returns Inv-loop μ-loop
 returns c = sym (tail-none _ _ (omega arith))
 
@@ -37,26 +34,11 @@ loop-holds c =
     let some = tail-some (a .s .now) (a .c .at) (omega arith) in
     (omega arith, rw (c .before .left .ensures) some)
 
-sub-k : tie.Need-sub-k Inv-loop μ-loop
-sub-k c = omega arith
-
-add-if2 : tie.Need-add-if2 Inv-loop μ-loop
-add-if2 c = omega arith
-
 returns-2 : tie.Need-returns-2 Inv-loop μ-loop
 returns-2 c =
     let w = c .before .before in
     let a = w .before .before .before .before .args in
     sym (w .loop .inv .1 ∙ judged-early _ (part (a .s .now) (a .c .at) (w .loop .k)) (omega (arith, length-part (a .s .now) (a .c .at) (w .loop .k))))
-
-add-bit : tie.Need-add-bit Inv-loop μ-loop
-add-bit c = omega arith
-
-bit-requires : tie.Need-bit-requires Inv-loop μ-loop
-bit-requires c κs = omega arith
-
-cast-t11 : tie.Need-cast-t11 Inv-loop μ-loop
-cast-t11 c = omega arith
 
 returns-3 : tie.Need-returns-3 Inv-loop μ-loop
 returns-3 c =
@@ -64,9 +46,6 @@ returns-3 c =
     let a = w .before .before .before .before .args in
     let one = digit-one _ (sym (c .before .bit .ensures) ∙ c .if3 .taken) in
     sym (turn (c .before .before .before) ∙ ap (judged _) (last-part-one (a .s .now) (a .c .at) (w .loop .k - 1) one) ∙ judged-found _ (w .loop .k - 1) (omega arith))
-
-loop-less : tie.Need-loop-less Inv-loop μ-loop
-loop-less c = omega arith
 
 loop-again : tie.Need-loop-again Inv-loop μ-loop
 loop-again c =
@@ -89,16 +68,16 @@ tail-spec =
     (tie.spec
     Inv-loop
     μ-loop
-    left-requires
+    (λ c κs. omega arith)
     returns
     loop-holds
-    sub-k
-    add-if2
+    (λ c. omega arith)
+    (λ c. omega arith)
     returns-2
-    add-bit
-    bit-requires
-    cast-t11
+    (λ c. omega arith)
+    (λ c κs. omega arith)
+    (λ c. omega arith)
     returns-3
-    loop-less
+    (λ c. omega arith)
     loop-again
     returns-4)

@@ -20,28 +20,10 @@ loop-holds : tie.Need-loop-holds Inv-loop μ-loop
 unfolding bytesOf
 loop-holds c = (omega arith, refl)
 
-mul-number : tie.Need-mul-number Inv-loop μ-loop
-mul-number c = omega arith
-
-add-number : tie.Need-add-number Inv-loop μ-loop
-add-number c = omega arith
-
-number-requires : tie.Need-number-requires Inv-loop μ-loop
-number-requires c κs = omega arith
-
 cast-bytes : tie.Need-cast-bytes Inv-loop μ-loop
 cast-bytes c =
     let a = c .before .before .before .before .args in
     omega (arith, part-fits (a .s .now) (a .at + 8 * c .before .before .loop .i) 8 8 (omega arith))
-
-array-write-bytes : tie.Need-array-write-bytes Inv-loop μ-loop
-array-write-bytes c = omega arith
-
-add-i : tie.Need-add-i Inv-loop μ-loop
-add-i c = omega arith
-
-loop-less : tie.Need-loop-less Inv-loop μ-loop
-loop-less c = omega arith
 
 loop-again : tie.Need-loop-again Inv-loop μ-loop
 loop-again c =
@@ -63,12 +45,12 @@ bytes-at-spec =
     Inv-loop
     μ-loop
     loop-holds
-    mul-number
-    add-number
-    number-requires
+    (λ c. omega arith)
+    (λ c. omega arith)
+    (λ c κs. omega arith)
     cast-bytes
-    array-write-bytes
-    add-i
-    loop-less
+    (λ c. omega arith)
+    (λ c. omega arith)
+    (λ c. omega arith)
     loop-again
     returns)

@@ -6,20 +6,26 @@ use mathlib.Core.Path.{_≡_, refl, sym, ap, _∙_}
 use native.Mathlib.Omega.{arith}
 use borrow.Author.Needs.{needs}
 use borrow.Author.Tests.{eq-eqb, ne-eqb}
+use Rattle.bits.specs.Out.{Out, taken, refused}
 use Rattle.bits.specs.Coding.{golomb}
 use Rattle.bits.specs.Answers.{answer}
 use Rattle.format.specs.Format.{runAt}
 use Rattle.format.proofs.Steps.{step-done, step, step-yes, step-no, step-part, At, start, next, last, stop}
-use Rattle.depth.specs.Model.{numbers, modelTable, model, modelRead}
+use Rattle.depth.specs.Model.{numbers, numbersRead, modelTable, model, modelRead}
 use Rattle.depth.specs.declared.model.Model.{Model}
+use Rattle.depth.specs.declared.model.NumbersRead.{NumbersRead}
 use Rattle.format.proofs.ReaderLaws.{at-most-kept, beside, stopped-beside}
-use Rattle.depth.proofs.Lists.{numbers-beside}
 use Rattle.depth.proofs.model.read_model.Statement.{statement}
 use Rattle.depth.proofs.model.read_model.Tie as tie
 
 opened : (t : ℕ) (s : List ℕ) (p : ℕ) → runAt (model t) s p ≡ runAt (modelTable t) s p
 unfolding model
 opened t s p = refl
+
+-- what the reader of the numbers answers, as what reading them comes to
+numbers-beside : {r : NumbersRead} (o : Out (List ℕ)) → r ≡ numbersRead o → beside (r .onward) (r .numbers) ≡ o
+numbers-beside (taken a q) e = ap (λ (r : NumbersRead). beside (r .onward) (r .numbers)) e
+numbers-beside (refused t) e = ap (λ (r : NumbersRead). beside (r .onward) (r .numbers)) e
 
 abbrev at1 : (c : tie.After-at-most) → At Model (answer (c .at-most .result))
 at1 c =

@@ -9,9 +9,6 @@ use Rattle.numbers.proofs.DegreeLaws.{every-i32, over-65536}
 use Rattle.numbers.proofs.degrees.degree.Statement.{statement}
 use Rattle.numbers.proofs.degrees.degree.Tie as tie
 
-int-to-float-result : tie.Need-int-to-float-result
-int-to-float-result c = search needs
-
 returns : tie.Need-returns
 returns c =
     let n = c .before .args .c in
@@ -19,4 +16,4 @@ returns c =
     ∙ over-65536 n (every-i32 n (c .before .fits .c))
 
 pub degree-spec : {M : Type 1} → statement M
-degree-spec = tie.close (tie.spec int-to-float-result returns)
+degree-spec = tie.close (tie.spec (λ c. search needs) returns)

@@ -12,9 +12,6 @@ use Rattle.numbers.proofs.DegreeLaws.{every-i32, degree-finite, degree-
 use Rattle.numbers.proofs.degrees.degree_bits.Statement.{statement}
 use Rattle.numbers.proofs.degrees.degree_bits.Tie as tie
 
-degree-requires : tie.Need-degree-requires
-degree-requires c κs = search needs
-
 result-is : (c : tie.After-degree) → c .degree .result ≡ ofBits binary64 (degreeBits (c .before .args .c))
 result-is c = simp (c .degree .ensures, toZ-ofZ w32 (c .before .args .c) (c .before .fits .c))
 
@@ -30,4 +27,4 @@ returns c =
     ap (toBits binary64) (result-is c) ∙ degree-back n (every-i32 n (c .before .fits .c))
 
 pub degree-bits-spec : {M : Type 1} → statement M
-degree-bits-spec = tie.close (tie.spec degree-requires float-to-bits-result returns)
+degree-bits-spec = tie.close (tie.spec (λ c κs. search needs) float-to-bits-result returns)

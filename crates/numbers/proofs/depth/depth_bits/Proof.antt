@@ -7,17 +7,8 @@ use Rattle.numbers.proofs.depth.depth_bits.Tie as tie
 returns : tie.Need-returns
 returns c = simp (c .if1 .taken)
 
-add-v : tie.Need-add-v
-add-v c = search needs
-
-small-bits-requires : tie.Need-small-bits-requires
-small-bits-requires c κs = search needs
-
 returns-2 : tie.Need-returns-2
 returns-2 c = simp (c .before .if2 .taken, c .small-bits .ensures)
-
-normal-bits-requires : tie.Need-normal-bits-requires
-normal-bits-requires c κs = search needs
 
 returns-3 : tie.Need-returns-3
 returns-3 c =
@@ -25,4 +16,4 @@ returns-3 c =
     simp (ne-eqb (start .args .exponent) 127 (c .before .before .if1 .left), c .normal-bits .ensures)
 
 pub depth-bits-spec : {M : Type 1} → statement M
-depth-bits-spec = tie.close (tie.spec returns add-v small-bits-requires returns-2 normal-bits-requires returns-3)
+depth-bits-spec = tie.close (tie.spec returns (λ c. search needs) (λ c κs. search needs) returns-2 (λ c κs. search needs) returns-3)

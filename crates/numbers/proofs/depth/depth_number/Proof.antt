@@ -15,9 +15,6 @@ use Rattle.numbers.proofs.depth.depth_number.Tie as tie
 returns : tie.Need-returns
 returns c = simp (c .if1 .taken)
 
-depth-bits-requires : tie.Need-depth-bits-requires
-depth-bits-requires c κs = search needs
-
 result-is : (c : tie.After-depth-bits) → let a = c .before .before .args in
     c .depth-bits .result ≡ depthBits (a .sign) (a .exponent) (a .length-minus1 + 1) (a .mantissa)
 result-is c = simp (ne-eqb (c .before .before .args .exponent) 127 (c .before .if1 .left)) at (c .depth-bits .ensures)
@@ -35,4 +32,4 @@ returns-2 : tie.Need-returns-2
 returns-2 c = simp (ne-eqb (c .before .before .args .exponent) 127 (c .before .if1 .left), result-is c)
 
 pub depth-number-spec : {M : Type 1} → statement M
-depth-number-spec = tie.close (tie.spec returns depth-bits-requires float-from-bits-t7 returns-2)
+depth-number-spec = tie.close (tie.spec returns (λ c κs. search needs) float-from-bits-t7 returns-2)

@@ -9,15 +9,6 @@ use Rattle.numbers.specs.Floats.{pattern}
 use Rattle.numbers.proofs.depth.normal_bits.Statement.{statement}
 use Rattle.numbers.proofs.depth.normal_bits.Tie as tie
 
-add-fields : tie.Need-add-fields
-add-fields c = search needs
-
-sub-fields : tie.Need-sub-fields
-sub-fields c = search needs
-
-shl-fields : tie.Need-shl-fields
-shl-fields c = search needs
-
 fields-requires : tie.Need-fields-requires
 fields-requires c κs = (search needs, search needs, shifted-fits (c .args .n) (c .args .v) _ (c .pre .0 .mantissa-fits) (omega arith))
 
@@ -29,4 +20,4 @@ returns c =
     ∙ sym (normal-bits (a .s) (a .e) (a .v) (a .n) (search needs))
 
 pub normal-bits-spec : {M : Type 1} → statement M
-normal-bits-spec = tie.close (tie.spec add-fields sub-fields shl-fields fields-requires returns)
+normal-bits-spec = tie.close (tie.spec (λ c. search needs) (λ c. search needs) (λ c. search needs) fields-requires returns)

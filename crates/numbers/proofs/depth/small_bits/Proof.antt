@@ -35,12 +35,6 @@ returns c =
     let a = c .before .args in
     sym (ap (depthBits (a .s) 0 (a .v)) (c .if1 .taken) ∙ zero-bits (a .s) (a .v))
 
-top-bit-requires : tie.Need-top-bit-requires
-top-bit-requires c κs = search needs
-
-sub-fields : tie.Need-sub-fields
-sub-fields c = search needs
-
 add-fields : tie.Need-add-fields
 add-fields c = omega (arith, facts c .low)
 
@@ -52,9 +46,6 @@ sub-fields-2 c = subst (λ (y : ℕ). y ≤ c .before .before .args .n) (sym (on
 
 sub-fields-3 : tie.Need-sub-fields-3
 sub-fields-3 c = omega (arith, facts c .low)
-
-shl-fields-2 : tie.Need-shl-fields-2
-shl-fields-2 c = search needs
 
 fields-requires : tie.Need-fields-requires
 fields-requires c κs =
@@ -78,12 +69,12 @@ small-bits-spec =
     tie.close
     (tie.spec
     returns
-    top-bit-requires
-    sub-fields
+    (λ c κs. search needs)
+    (λ c. search needs)
     add-fields
     shl-fields
     sub-fields-2
     sub-fields-3
-    shl-fields-2
+    (λ c. search needs)
     fields-requires
     returns-2)

@@ -1,12 +1,9 @@
 -- `regions::region::read_regions` meets its contract. The loop's invariant: the list fills, and the next region stands at the cursor.
 -- Assumes nothing.
 use Prim.Native.Nat.{_-_}
-use mathlib.Core.Path.{_≡_, sym, ap, _∙_}
+use mathlib.Core.Path.{sym, ap, _∙_}
 use native.Mathlib.Omega.{arith}
 use borrow.Author.Needs.{needs}
-use Rattle.bits.specs.Out.{Out, refused, refusalIn}
-use Rattle.bits.specs.declared.refusal.Refusal.{Refusal}
-use Rattle.regions.specs.declared.region.Region.{Region}
 use Rattle.regions.specs.Region.{most, region, noRegion, regions, regionAnswer, regionsRead}
 use Rattle.format.proofs.Filling.{Filling, first, one-more, stopped, filled}
 use Rattle.regions.proofs.region.read_regions.Statement.{statement}
@@ -21,19 +18,14 @@ abbrev μ-loop : tie.MeasureT-loop
 loop-holds : tie.Need-loop-holds Inv-loop μ-loop
 loop-holds c = rw (c .no-regions .ensures) (first region most noRegion _ _ _ (search needs))
 
-told : {o x : Out Region} {r t : Refusal} → o ≡ x → o ≡ refused r → t ≡ refusalIn o → x ≡ refused t
-told e g f = sym e ∙ g ∙ ap refused (sym (f ∙ ap refusalIn g))
-
 returns : tie.Need-returns Inv-loop μ-loop
 unfolding regions
 returns c =
     let k = c .before .before .before .before in
-    let l = k .before .before in
-    rw (c .before .no-regions2 .ensures)
+    let e = c .before .before .enum-told .given .1 in
+    rw (c .before .no-regions2 .ensures, c .refusal .ensures, e)
     (ap regionsRead
-    (sym
-    (stopped region most noRegion _ _ _ (l .loop .inv) (k .before .loop-test .taken)
-    (told (k .read-region .ensures) (ap regionAnswer (c .before .before .enum-told .given .1)) (c .refusal .ensures)))))
+    (sym (stopped region most noRegion _ _ _ (k .before .before .loop .inv) (k .before .loop-test .taken) (sym (k .read-region .ensures) ∙ ap regionAnswer e))))
 
 loop-again : tie.Need-loop-again Inv-loop μ-loop
 loop-again c =

@@ -5,15 +5,6 @@ use mir.ValLaws.{toZ-ofZ}
 use Rattle.numbers.proofs.degrees.Degrees.of.Statement.{statement}
 use Rattle.numbers.proofs.degrees.Degrees.of.Tie as tie
 
-degree-requires : tie.Need-degree-requires
-degree-requires c κs = search needs
-
-degree-requires-2 : tie.Need-degree-requires-2
-degree-requires-2 c κs = search needs
-
-degree-requires-3 : tie.Need-degree-requires-3
-degree-requires-3 c κs = search needs
-
 returns : tie.Need-returns
 returns c =
     let start = c .before .before .before in
@@ -27,4 +18,4 @@ returns c =
     )
 
 pub of-spec : {M : Type 1} → statement M
-of-spec = tie.close (tie.spec degree-requires degree-requires-2 degree-requires-3 returns)
+of-spec = tie.close (tie.spec (λ c κs. search needs) (λ c κs. search needs) (λ c κs. search needs) returns)

@@ -4,6 +4,4 @@ use Rattle.regions.proofs.region.Region.zero.Statement.{statement}
 use Rattle.regions.proofs.region.Region.zero.Tie as tie
 
 pub zero-spec : {M : Type 1} → statement M
-zero-spec =
-    tie.close
-    (tie.spec (λ c κs. tt) (λ c κs. tt) (λ c κs. tt) (λ c. rw (c .zero3 .ensures, c .before .zero2 .ensures, c .before .before .zero .ensures)))
+zero-spec = tie.close (tie.spec (λ c κs. tt) (λ c. rw (c .zero .ensures)))
