@@ -1,0 +1,173 @@
+// Kind 177, depth representation information. Each of the four numbers has six of the row: sign, exponent, mantissa length less one, mantissa,
+// whether it is absent (0), unspecified (1) or a number (2), and the number's 64 bits.
+use crate::field::Style;
+use crate::field::apart;
+use crate::field::at;
+use crate::field::field;
+use crate::field::fields;
+use crate::field::indexed;
+use crate::field::shown;
+use crate::fraction::decimal;
+use crate::fraction::power;
+use crate::text::bits;
+use crate::text::number;
+use crate::text::text;
+ghost use Prim.Native.Nat.{_≤_};
+
+// A number too long to be written out.
+fn scaled(m: u64, sign: &[u8], k: u64) {
+    number(m);
+    text(b" x 2^");
+    text(sign);
+    number(k);
+}
+
+// m × 2^k.
+fn multiple(m: u64, k: u64) {
+    if 30 < k {
+        scaled(m, b"", k);
+    } else {
+        number(m << k);
+    }
+}
+
+// m / 2^k.
+fn part(m: u64, k: u64) {
+    if 61 < k {
+        scaled(m, b"-", k);
+    } else {
+        decimal(m, power(k));
+    }
+}
+
+// m × 2^(e - 31 - v).
+fn value(m: u64, e: u64, v: u64)
+    requires { ⌜ v ≤ 32 ⌝ }
+{
+    let whole = 31 + v;
+    if whole <= e {
+        multiple(m, e - whole);
+    } else {
+        part(m, whole - e);
+    }
+}
+
+// The number that an exponent e and a mantissa n of v bits stand for. A mantissa has at most 32 bits: no row has more.
+fn magnitude(e: u64, v: u64, n: u64) {
+    if 32 < v {
+        return;
+    }
+    if e == 0 {
+        value(n, 1, v);
+    } else {
+        value(power(v) + n % 4294967296, e, v);
+    }
+}
+
+// The number in decimal, and its bits; only a negative one has the highest bit set.
+fn specified(row: &[u64], from: usize)
+    requires { ⌜ from ≤ 256 ⌝ }
+{
+    let pattern = at(row, from + 5);
+    if 9223372036854775808 <= pattern {
+        text(b"-");
+    }
+    magnitude(
+        at(row, from + 1),
+        at(row, from + 2) % 32 + 1,
+        at(row, from + 3),
+    );
+    text(b" ");
+    bits(pattern);
+}
+
+fn element(style: Style, name: &[u8], row: &[u64], from: usize)
+    requires { ⌜ from ≤ 256 ⌝ }
+{
+    apart(style);
+    text(name);
+    let state = at(row, from + 4);
+    if state == 0 {
+        text(b"=absent");
+        return;
+    }
+    if state == 1 {
+        text(b"=unspecified");
+    } else {
+        text(b"=");
+        specified(row, from);
+    }
+    text(b" (");
+    fields(
+        Style::Line,
+        row,
+        from,
+        b"da_sign_flag\nda_exponent\nda_mantissa_len_minus1\nda_mantissa",
+    );
+    text(b" )");
+}
+
+fn element_if(style: Style, flag: u64, name: &[u8], row: &[u64], from: usize)
+    requires { ⌜ from ≤ 256 ⌝ }
+{
+    if shown(style, flag == 1) {
+        element(style, name, row, from);
+    }
+}
+
+fn elements(style: Style, row: &[u64]) {
+    element_if(style, at(row, 1), b"ZNear", row, 7);
+    element_if(style, at(row, 2), b"ZFar", row, 13);
+    element_if(style, at(row, 3), b"DMin", row, 19);
+    element_if(style, at(row, 4), b"DMax", row, 25);
+}
+
+// The list of type 3, which H.274 counts from 1.
+fn model(style: Style, row: &[u64], count: u64) {
+    let mut i: u64 = 0;
+    while i < count {
+        if 63 <= i {
+            return;
+        }
+        i += 1;
+        indexed(
+            style,
+            row,
+            31 + i as usize,
+            i,
+            b"depth_nonlinear_representation_model[#]",
+        );
+    }
+}
+
+fn list(style: Style, row: &[u64]) {
+    let count = at(row, 31);
+    if 0 < count {
+        field(
+            style,
+            b"depth_nonlinear_representation_num_minus1",
+            0,
+            count - 1,
+            b"",
+        );
+        model(style, row, count);
+    }
+}
+
+pub fn depth(style: Style, row: &[u64]) {
+    fields(
+        style,
+        row,
+        1,
+        b"z_near_flag|not coded|coded\n\
+        z_far_flag|not coded|coded\n\
+        d_min_flag|not coded|coded\n\
+        d_max_flag|not coded|coded\n\
+        depth_representation_type|samples are the inverse of the distance|samples are disparity|samples are the distance|samples are disparity, mapped by the list|reserved",
+    );
+    if shown(style, at(row, 3) == 1 || at(row, 4) == 1) {
+        fields(style, row, 6, b"disparity_ref_view_id");
+    }
+    elements(style, row);
+    list(style, row);
+}
