@@ -1,7 +1,8 @@
 // The fields of a record, and of what a reader answers.
 use crate::depth_names::depth;
+use crate::field::Place;
 use crate::field::Style;
-use crate::field::fields;
+use crate::field::field;
 use crate::names::alpha;
 use crate::names::equirectangular;
 use crate::names::frame_packing;
@@ -33,11 +34,17 @@ pub fn record(style: Style, kind: u64, row: &[u64], part: &[u8]) {
 pub fn answer(style: Style, kind: u64, a: Answer, part: &[u8]) {
     let mut row = [0u64; 313];
     hand_out(&mut row, 0, a);
-    fields(
+    let place = Place {
+        from: 0,
+        index: 0,
+        outer: true,
+        inner: true,
+    };
+    field(
         style,
-        &row,
-        0,
-        b"extension|no bits|bits that newer firmware may have added after the message; they are not used",
+        place,
+        a.extension as u64,
+        b"0 extension|no bits after the message|bits after the message, as newer firmware may add; they are not used",
     );
     record(style, kind, &row, part);
 }

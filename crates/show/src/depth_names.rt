@@ -1,14 +1,15 @@
 // Kind 177, depth representation information. Each of the four numbers has six of the row: sign, exponent, mantissa length less one, mantissa,
 // whether it is absent (0), unspecified (1) or a number (2), and the number's 64 bits.
+use crate::field::Place;
 use crate::field::Style;
 use crate::field::apart;
 use crate::field::at;
 use crate::field::field;
 use crate::field::fields;
-use crate::field::indexed;
 use crate::field::shown;
 use crate::fraction::decimal;
 use crate::fraction::power;
+use crate::names::carried;
 use crate::text::bits;
 use crate::text::number;
 use crate::text::text;
@@ -41,7 +42,7 @@ fn part(m: u64, k: u64) {
 }
 
 // m × 2^(e - 31 - v).
-fn value(m: u64, e: u64, v: u64)
+fn product(m: u64, e: u64, v: u64)
     requires { ⌜ v ≤ 32 ⌝ }
 {
     let whole = 31 + v;
@@ -58,9 +59,9 @@ fn magnitude(e: u64, v: u64, n: u64) {
         return;
     }
     if e == 0 {
-        value(n, 1, v);
+        product(n, 1, v);
     } else {
-        value(power(v) + n % 4294967296, e, v);
+        product(power(v) + n % 4294967296, e, v);
     }
 }
 
@@ -81,93 +82,90 @@ fn specified(row: &[u64], from: usize)
     bits(pattern);
 }
 
-fn element(style: Style, name: &[u8], row: &[u64], from: usize)
+fn value(row: &[u64], from: usize)
     requires { ⌜ from ≤ 256 ⌝ }
 {
-    apart(style);
-    text(name);
     let state = at(row, from + 4);
     if state == 0 {
-        text(b"=absent");
-        return;
-    }
-    if state == 1 {
-        text(b"=unspecified");
+        text(b"absent");
+    } else if state == 1 {
+        text(b"unspecified");
     } else {
-        text(b"=");
         specified(row, from);
     }
-    text(b" (");
-    fields(
-        Style::Line,
-        row,
-        from,
-        b"da_sign_flag\nda_exponent\nda_mantissa_len_minus1\nda_mantissa",
-    );
-    text(b" )");
 }
 
-fn element_if(style: Style, flag: u64, name: &[u8], row: &[u64], from: usize)
+// A number, and the parts that code it.
+fn element(style: Style, flag: u64, name: &[u8], row: &[u64], from: usize)
     requires { ⌜ from ≤ 256 ⌝ }
 {
-    if shown(style, flag == 1) {
-        element(style, name, row, from);
+    let mut place = carried(flag == 1);
+    place.from = from;
+    if shown(style, b'1', place) {
+        apart(style);
+        text(name);
+        value(row, from);
+        fields(
+            Style::Line,
+            row,
+            place,
+            b"0 da_sign_flag\n0 da_exponent\n0 da_mantissa_len_minus1\n0 da_mantissa",
+        );
     }
 }
 
 fn elements(style: Style, row: &[u64]) {
-    element_if(style, at(row, 1), b"ZNear", row, 7);
-    element_if(style, at(row, 2), b"ZFar", row, 13);
-    element_if(style, at(row, 3), b"DMin", row, 19);
-    element_if(style, at(row, 4), b"DMax", row, 25);
+    element(style, at(row, 1), b"ZNear=", row, 7);
+    element(style, at(row, 2), b"ZFar=", row, 13);
+    element(style, at(row, 3), b"DMin=", row, 19);
+    element(style, at(row, 4), b"DMax=", row, 25);
 }
 
 // The list of type 3, which H.274 counts from 1.
-fn model(style: Style, row: &[u64], count: u64) {
+fn list(style: Style, row: &[u64], count: u64) {
     let mut i: u64 = 0;
     while i < count {
         if 63 <= i {
             return;
         }
-        i += 1;
-        indexed(
+        let place = Place {
+            from: 32 + i as usize,
+            index: i + 1,
+            outer: true,
+            inner: true,
+        };
+        fields(
             style,
             row,
-            31 + i as usize,
-            i,
-            b"depth_nonlinear_representation_model[#]",
+            place,
+            b"0 depth_nonlinear_representation_model[#]",
         );
-    }
-}
-
-fn list(style: Style, row: &[u64]) {
-    let count = at(row, 31);
-    if 0 < count {
-        field(
-            style,
-            b"depth_nonlinear_representation_num_minus1",
-            0,
-            count - 1,
-            b"",
-        );
-        model(style, row, count);
+        i += 1;
     }
 }
 
 pub fn depth(style: Style, row: &[u64]) {
+    let place = carried(at(row, 3) == 1 || at(row, 4) == 1);
     fields(
         style,
         row,
-        1,
-        b"z_near_flag|not coded|coded\n\
-        z_far_flag|not coded|coded\n\
-        d_min_flag|not coded|coded\n\
-        d_max_flag|not coded|coded\n\
-        depth_representation_type|samples are the inverse of the distance|samples are disparity|samples are the distance|samples are disparity, mapped by the list|reserved",
+        place,
+        b"0 z_near_flag|not coded|coded\n\
+        0 z_far_flag|not coded|coded\n\
+        0 d_min_flag|not coded|coded\n\
+        0 d_max_flag|not coded|coded\n\
+        0 depth_representation_type|samples are the inverse of the distance|samples are disparity|samples are the distance|samples are disparity, mapped by the list|reserved\n\
+        1 disparity_ref_view_id",
     );
-    if shown(style, at(row, 3) == 1 || at(row, 4) == 1) {
-        fields(style, row, 6, b"disparity_ref_view_id");
-    }
     elements(style, row);
-    list(style, row);
+    let count = at(row, 31);
+    if 0 < count {
+        field(
+            style,
+            place,
+            count - 1,
+            b"0 depth_nonlinear_representation_num_minus1",
+        );
+        list(style, row, count);
+    }
 }

@@ -11,12 +11,13 @@ pub enum Style {
     Explained,
 }
 
-// Whether a part of a record is shown, by whether the message carries it.
-pub fn shown(style: Style, carried: bool) -> bool {
-    match style {
-        Style::Line => true,
-        Style::Explained => carried,
-    }
+// Where a row's fields stand, and which of them the message carries.
+pub struct Place {
+    pub from: usize,
+    // The index in their names, for a '#'.
+    pub index: u64,
+    pub outer: bool,
+    pub inner: bool,
 }
 
 // The number at a place of a row; 0 past its end.
@@ -32,6 +33,23 @@ pub fn apart(style: Style) {
     }
 }
 
+// Whether a field is shown, by how deep it lies: 0 is always carried, 1 where the outer condition holds, 2 where both do.
+pub fn shown(style: Style, depth: u8, place: Place) -> bool {
+    match style {
+        Style::Line => true,
+        Style::Explained => {
+            if depth == b'0' {
+                return true;
+            }
+            if place.outer {
+                if depth == b'1' { true } else { place.inner }
+            } else {
+                false
+            }
+        }
+    }
+}
+
 // A name, with the index where it has a '#'.
 fn name(s: &[u8], index: u64) {
     let start = 0;
@@ -44,57 +62,78 @@ fn name(s: &[u8], index: u64) {
     }
 }
 
-// What a value means: between bars, what 0, 1 and so on mean, the last for all that are larger. Nothing where there is nothing to say.
-fn meaning(style: Style, meanings: &[u8], n: u64) {
-    match style {
-        Style::Line => {}
-        Style::Explained => {
-            if 0 < meanings.len() {
-                text(b": ");
-                piece(meanings, n);
-            }
-        }
+// Meanings that several kinds share, by a letter.
+fn common(letter: u8, n: u64) {
+    match letter {
+        b'c' => piece(b"fields follow|ends what is held", n),
+        b'p' => piece(b"this picture only|until the next message or sequence", n),
+        b'g' => piece(
+            b"content unknown, or coded as 4 to 7|enough content to interpolate between samples|\
+            picture content, its quality changing towards the neighbour's|picture content of like quality",
+            n,
+        ),
+        _ => piece(
+            b"no transform|mirrored horizontally|rotated by 180 degrees anticlockwise|\
+            rotated by 180 degrees anticlockwise, then mirrored horizontally|\
+            rotated by 90 degrees anticlockwise, then mirrored horizontally|\
+            rotated by 90 degrees anticlockwise|\
+            rotated by 270 degrees anticlockwise, then mirrored horizontally|\
+            rotated by 270 degrees anticlockwise",
+            n,
+        ),
     }
 }
 
-pub fn field(style: Style, label: &[u8], index: u64, n: u64, meanings: &[u8]) {
-    apart(style);
-    name(label, index);
-    text(b"=");
-    number(n);
-    meaning(style, meanings, n);
-}
-
-// A field by its line: the name, and after a bar what its values mean.
-fn line(style: Style, s: &[u8], index: u64, n: u64) {
-    let start = 0;
-    let bar = find(s, start, b'|');
-    if bar < s.len() {
-        let after = bar + 1;
-        field(style, &s[start..bar], index, n, &s[after..]);
+// What 0, 1 and so on mean, each after a bar, the last for all that are larger; or '@' and the letter of a shared meaning.
+fn meaning(s: &[u8], n: u64) {
+    if s.len() < 3 {
+        return;
+    }
+    text(b": ");
+    if s[1] == b'@' {
+        common(s[2], n);
     } else {
-        field(style, s, index, n, b"");
+        let after = 1;
+        piece(&s[after..], n);
     }
 }
 
-// The numbers of a row from a place on, one for each line of names.
-pub fn indexed(style: Style, row: &[u64], from: usize, index: u64, names: &[u8]) {
-    let mut at = from;
+fn said(style: Style, s: &[u8], n: u64) {
+    if let Style::Explained = style {
+        meaning(s, n);
+    }
+}
+
+// A field by its line: how deep it lies, a space, the name, and after a bar what its values mean.
+pub fn field(style: Style, place: Place, n: u64, line: &[u8]) {
+    let start = 2;
+    let bar = find(line, 0, b'|');
+    if bar < start {
+        return;
+    }
+    if shown(style, line[0], place) {
+        apart(style);
+        name(&line[start..bar], place.index);
+        text(b"=");
+        number(n);
+        said(style, &line[bar..], n);
+    }
+}
+
+// The numbers of a row from a place on, one for each line.
+pub fn fields(style: Style, row: &[u64], place: Place, lines: &[u8]) {
+    let mut i = place.from;
     let mut p = 0;
-    while p < names.len() {
-        let end = find(names, p, b'\n');
-        if row.len() <= at {
+    while p < lines.len() {
+        let end = find(lines, p, b'\n');
+        if row.len() <= i {
             return;
         }
-        line(style, &names[p..end], index, row[at]);
-        if end == names.len() {
+        field(style, place, row[i], &lines[p..end]);
+        if end == lines.len() {
             return;
         }
         p = end + 1;
-        at += 1;
+        i += 1;
     }
-}
-
-pub fn fields(style: Style, row: &[u64], from: usize, names: &[u8]) {
-    indexed(style, row, from, 0, names);
 }

@@ -13,5 +13,4 @@ pub mod rotation_names;
 pub mod scan;
 pub mod table;
 pub mod text;
-pub mod types;
 pub mod user_names;

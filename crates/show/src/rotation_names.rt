@@ -5,6 +5,7 @@ use crate::field::at;
 use crate::field::fields;
 use crate::field::shown;
 use crate::fraction::decimal;
+use crate::names::carried;
 use crate::text::bits;
 use crate::text::number;
 use crate::text::text;
@@ -41,19 +42,15 @@ fn angle(style: Style, name: &[u8], coded: u64, degrees: u64) {
 }
 
 pub fn rotation(style: Style, row: &[u64]) {
+    let place = carried(at(row, 1) == 0);
     fields(
         style,
         row,
-        1,
-        b"sphere_rotation_cancel_flag|fields follow|ends what is held",
+        place,
+        b"0 sphere_rotation_cancel_flag|@c\n\
+        1 sphere_rotation_persistence_flag|@p",
     );
-    if shown(style, at(row, 1) == 0) {
-        fields(
-            style,
-            row,
-            2,
-            b"sphere_rotation_persistence_flag|this picture only|until the next message or sequence",
-        );
+    if shown(style, b'1', place) {
         angle(style, b"yaw_rotation=", at(row, 3), at(row, 6));
         angle(style, b"pitch_rotation=", at(row, 4), at(row, 7));
         angle(style, b"roll_rotation=", at(row, 5), at(row, 8));

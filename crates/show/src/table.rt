@@ -1,6 +1,7 @@
 // The rows of a region table, by the names of 8.15.5.2.
 use crate::field::Style;
 use crate::field::fields;
+use crate::names::carried;
 use crate::text::number;
 use crate::text::text;
 
@@ -11,12 +12,14 @@ pub fn table(rows: &[u64], count: u32) {
         text(b"\n  row ");
         number(i as u64);
         text(b":");
+        let mut place = carried(true);
+        place.from = 9 * (i as usize);
         fields(
             Style::Line,
             rows,
-            9 * (i as usize),
-            b"ProjRegionLeft\nProjRegionTop\nProjRegionWidth\nProjRegionHeight\n\
-            PackedRegionLeft\nPackedRegionTop\nPackedRegionWidth\nPackedRegionHeight\nTransformType",
+            place,
+            b"0 ProjRegionLeft\n0 ProjRegionTop\n0 ProjRegionWidth\n0 ProjRegionHeight\n\
+            0 PackedRegionLeft\n0 PackedRegionTop\n0 PackedRegionWidth\n0 PackedRegionHeight\n0 TransformType",
         );
         i += 1;
     }

@@ -1,14 +1,13 @@
-// Kinds 4 and 5, user data.
+// What follows the head of kinds 4 and 5, and the identifier of kind 5.
 use crate::field::Style;
 use crate::field::apart;
 use crate::field::at;
-use crate::field::fields;
-use crate::field::shown;
+use crate::names;
 use crate::text::bytes;
 use crate::text::printable;
 use crate::text::text;
 
-// What follows the head, in hex and, where it is explained, as text.
+// In hex and, where it is explained, as text.
 fn rest(style: Style, name: &[u8], part: &[u8]) {
     apart(style);
     text(name);
@@ -21,10 +20,7 @@ fn rest(style: Style, name: &[u8], part: &[u8]) {
 }
 
 pub fn registered(style: Style, row: &[u64], part: &[u8]) {
-    fields(style, row, 1, b"itu_t_t35_country_code");
-    if shown(style, at(row, 1) == 255) {
-        fields(style, row, 2, b"itu_t_t35_country_code_extension_byte");
-    }
+    names::registered(style, row);
     rest(style, b"itu_t_t35_payload_byte=", part);
 }
 

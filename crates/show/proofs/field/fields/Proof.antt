@@ -1,19 +1,19 @@
--- `show::field::indexed` is safe and ends.
+-- `show::field::fields` is safe and ends.
 -- Assumes nothing.
 use Prim.Native.Nat.{_≤_, _-_}
 use lib.ListN.{length}
 use borrow.Author.Needs.{needs}
-use Rattle.show.proofs.field.indexed.Statement.{statement}
-use Rattle.show.proofs.field.indexed.Tie as tie
+use Rattle.show.proofs.field.fields.Statement.{statement}
+use Rattle.show.proofs.field.fields.Tie as tie
 
 abbrev Inv-loop : tie.InvT-loop
-Inv-loop style row from index names at₀ p₀ at p = p ≤ length names
+Inv-loop style row place lines i₀ p₀ i p = p ≤ length lines
 
 abbrev μ-loop : tie.MeasureT-loop
-μ-loop style row from index names at₀ p₀ at p = length names - p
+μ-loop style row place lines i₀ p₀ i p = length lines - p
 
-pub indexed-spec : {M : Type 1} → statement M
-indexed-spec =
+pub fields-spec : {M : Type 1} → statement M
+fields-spec =
     tie.close
     (tie.spec
     Inv-loop

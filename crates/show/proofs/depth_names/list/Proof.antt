@@ -1,18 +1,18 @@
--- `show::depth_names::model` is safe and ends.
+-- `show::depth_names::list` is safe and ends.
 -- Assumes nothing.
 use Prim.Native.Nat.{_≤_, _-_}
 use borrow.Author.Needs.{needs}
-use Rattle.show.proofs.depth_names.model.Statement.{statement}
-use Rattle.show.proofs.depth_names.model.Tie as tie
+use Rattle.show.proofs.depth_names.list.Statement.{statement}
+use Rattle.show.proofs.depth_names.list.Tie as tie
 
 abbrev Inv-loop : tie.InvT-loop
-Inv-loop style row count i₀ t5 i = i ≤ count
+Inv-loop style row count i₀ t6 i = i ≤ count
 
 abbrev μ-loop : tie.MeasureT-loop
-μ-loop style row count i₀ t5 i = count - i
+μ-loop style row count i₀ t6 i = count - i
 
-pub model-spec : {M : Type 1} → statement M
-model-spec =
+pub list-spec : {M : Type 1} → statement M
+list-spec =
     tie.close
     (tie.spec
     Inv-loop
@@ -23,6 +23,7 @@ model-spec =
     (λ c. search needs)
     (λ c. search needs)
     (λ c κs. search needs)
+    (λ c. search needs)
     (λ c. search needs)
     (λ c. search needs)
     (λ c. search needs))
