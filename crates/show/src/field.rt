@@ -1,8 +1,8 @@
 // A field: its name, its value and, where a message is explained, what the value means.
-use crate::scan::find;
 use crate::scan::piece;
 use crate::text::number;
 use crate::text::text;
+use words::place::find;
 
 pub enum Style {
     // Every field of a record, in one line.

@@ -1,0 +1,66 @@
+// One line of a script: its call, and the numbers after it.
+use crate::call::Call;
+use crate::wrong;
+use words::number::Spelled;
+use words::number::number;
+use words::place::find;
+use words::place::skip;
+
+// How far a line is read.
+pub struct Line {
+    pub number: u64,
+    pub call: Call,
+    pub at: usize,
+}
+
+impl Line {
+    pub fn to(self, at: usize) -> Line {
+        Line {
+            number: self.number,
+            call: self.call,
+            at,
+        }
+    }
+}
+
+pub enum Argument {
+    Given(u64, Line),
+    // It is missing or no number, which has been said.
+    Wrong,
+}
+
+// The number at the line's place.
+pub fn argument(line: Line, s: &[u8], name: &[u8]) -> Argument {
+    let at = line.at;
+    if s.len() <= at {
+        wrong::missing(line, name);
+        return Argument::Wrong;
+    }
+    let end = find(s, at, b' ');
+    let r = number(&s[at..end]);
+    match r {
+        Spelled::Value(n) => Argument::Given(n, line.to(skip(s, end, b' '))),
+        Spelled::Foreign => {
+            wrong::word(line, &s[at..end], b"is no decimal number");
+            Argument::Wrong
+        }
+        Spelled::Large => {
+            wrong::word(line, &s[at..end], b"does not fit 64 bits");
+            Argument::Wrong
+        }
+    }
+}
+
+// The line's only number, with nothing after it.
+pub fn only(line: Line, s: &[u8], name: &[u8]) -> Argument {
+    let r = argument(line, s, name);
+    let Argument::Given(_, next) = r else {
+        return r;
+    };
+    let at = next.at;
+    if at < s.len() {
+        wrong::word(line, &s[at..], b"is too much");
+        return Argument::Wrong;
+    }
+    r
+}

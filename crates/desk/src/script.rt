@@ -1,0 +1,59 @@
+// A line of a script, and what its call answers.
+use crate::call::Call;
+use crate::explain::explain;
+use crate::help::help;
+use crate::line::Line;
+use crate::payload::feed;
+use crate::payload::read;
+use crate::slot::picture;
+use crate::slot::plain;
+use crate::slot::table;
+use crate::wrong;
+use slots::Slots;
+use words::place::content;
+use words::place::find;
+use words::place::skip;
+
+fn called(slots: Slots, line: Line, s: &[u8]) -> Slots {
+    let call = line.call;
+    match call {
+        Call::Open => plain(slots, line, s),
+        Call::Close => plain(slots, line, s),
+        Call::Sequence => plain(slots, line, s),
+        Call::Picture => picture(slots, line, s),
+        Call::Feed => feed(slots, line, s),
+        Call::Table => {
+            table(slots, line, s);
+            slots
+        }
+        Call::Read => {
+            read(line, s);
+            slots
+        }
+        Call::Explain => {
+            explain(line, s);
+            slots
+        }
+        Call::Help => {
+            help();
+            slots
+        }
+        Call::Unknown => {
+            wrong::word(line, s, b"is no call");
+            slots
+        }
+    }
+}
+
+// The slots after the line.
+pub fn answer(slots: Slots, number: u64, whole: &[u8]) -> Slots {
+    let s = content(whole);
+    if s.len() == 0 {
+        return slots;
+    }
+    let start = 0;
+    let end = find(s, start, b' ');
+    let call = Call::by(&s[start..end]);
+    let at = skip(s, end, b' ');
+    called(slots, Line { number, call, at }, s)
+}
