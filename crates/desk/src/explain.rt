@@ -1,9 +1,9 @@
 // What a payload says, in words.
-use crate::line::Argument;
+use crate::line::Given;
 use crate::line::Line;
 use crate::line::argument;
 use crate::payload::MOST;
-use crate::payload::Payload;
+use crate::payload::Spelt;
 use crate::payload::front;
 use crate::payload::payload;
 use crate::slot::echo;
@@ -49,12 +49,12 @@ fn explained(kind: u64, size: u64, a: Answer, part: &[u8]) {
 
 pub fn explain(line: Line, s: &[u8]) {
     let r = argument(line, s, b"the kind");
-    let Argument::Given(kind, next) = r else {
+    let Given::Number(kind, next) = r else {
         return;
     };
     let mut buffer = [0u8; MOST];
     let given = payload(next, s, &mut buffer);
-    let Payload::Given(size, n) = given else {
+    let Spelt::Bytes(size, n) = given else {
         return;
     };
     let bytes = front(&buffer, n);

@@ -15,52 +15,53 @@ pub struct Line {
 
 impl Line {
     pub fn to(self, at: usize) -> Line {
+        let call = self.call;
         Line {
             number: self.number,
-            call: self.call,
+            call,
             at,
         }
     }
 }
 
-pub enum Argument {
-    Given(u64, Line),
+pub enum Given {
+    Number(u64, Line),
     // It is missing or no number, which has been said.
     Wrong,
 }
 
 // The number at the line's place.
-pub fn argument(line: Line, s: &[u8], name: &[u8]) -> Argument {
+pub fn argument(line: Line, s: &[u8], name: &[u8]) -> Given {
     let at = line.at;
     if s.len() <= at {
         wrong::missing(line, name);
-        return Argument::Wrong;
+        return Given::Wrong;
     }
     let end = find(s, at, b' ');
     let r = number(&s[at..end]);
     match r {
-        Spelled::Value(n) => Argument::Given(n, line.to(skip(s, end, b' '))),
+        Spelled::Value(n) => Given::Number(n, line.to(skip(s, end, b' '))),
         Spelled::Foreign => {
             wrong::word(line, &s[at..end], b"is no decimal number");
-            Argument::Wrong
+            Given::Wrong
         }
         Spelled::Large => {
             wrong::word(line, &s[at..end], b"does not fit 64 bits");
-            Argument::Wrong
+            Given::Wrong
         }
     }
 }
 
 // The line's only number, with nothing after it.
-pub fn only(line: Line, s: &[u8], name: &[u8]) -> Argument {
+pub fn only(line: Line, s: &[u8], name: &[u8]) -> Given {
     let r = argument(line, s, name);
-    let Argument::Given(_, next) = r else {
+    let Given::Number(_, next) = r else {
         return r;
     };
     let at = next.at;
     if at < s.len() {
         wrong::word(line, &s[at..], b"is too much");
-        return Argument::Wrong;
+        return Given::Wrong;
     }
     r
 }

@@ -1,5 +1,5 @@
 // The calls that read a payload.
-use crate::line::Argument;
+use crate::line::Given;
 use crate::line::Line;
 use crate::line::argument;
 use crate::slot::echo;
@@ -18,49 +18,49 @@ use words::place::find;
 // More than a payload may have, so that its refusal can be seen.
 pub const MOST: usize = 10000;
 
-pub enum Payload {
+pub enum Spelt {
     // The stated size, and how many bytes there are.
-    Given(u64, usize),
+    Bytes(u64, usize),
     // What is wrong has been said.
     Wrong,
 }
 
 // The bytes from the line's place on.
-fn spelled(line: Line, s: &[u8], out: &mut [u8]) -> Payload {
+fn spelled(line: Line, s: &[u8], out: &mut [u8]) -> Spelt {
     let r = bytes(s, line.at, out);
     match r {
-        Hex::Bytes(n) => Payload::Given(n as u64, n),
+        Hex::Bytes(n) => Spelt::Bytes(n as u64, n),
         Hex::Odd => {
             wrong::plain(line, b"odd count of hex digits");
-            Payload::Wrong
+            Spelt::Wrong
         }
         Hex::Foreign(i) => {
             if i < s.len() {
                 wrong::word(line, &s[i..], b"starts with no hex digit");
             }
-            Payload::Wrong
+            Spelt::Wrong
         }
         Hex::Long => {
             wrong::plain(line, b"more than 10000 bytes");
-            Payload::Wrong
+            Spelt::Wrong
         }
     }
 }
 
 // The same, with the size stated before them.
-fn stated(line: Line, s: &[u8], out: &mut [u8]) -> Payload {
+fn stated(line: Line, s: &[u8], out: &mut [u8]) -> Spelt {
     let r = argument(line, s, b"the size");
-    let Argument::Given(size, next) = r else {
-        return Payload::Wrong;
+    let Given::Number(size, next) = r else {
+        return Spelt::Wrong;
     };
     let given = spelled(next, s, out);
-    let Payload::Given(_, n) = given else {
+    let Spelt::Bytes(_, n) = given else {
         return given;
     };
-    Payload::Given(size, n)
+    Spelt::Bytes(size, n)
 }
 
-pub fn payload(line: Line, s: &[u8], out: &mut [u8]) -> Payload {
+pub fn payload(line: Line, s: &[u8], out: &mut [u8]) -> Spelt {
     let at = line.at;
     if s.len() <= at {
         return spelled(line, s, out);
@@ -97,12 +97,12 @@ pub fn report(style: Style, kind: u64, a: Answer, part: &[u8]) {
 
 pub fn read(line: Line, s: &[u8]) {
     let r = argument(line, s, b"the kind");
-    let Argument::Given(kind, next) = r else {
+    let Given::Number(kind, next) = r else {
         return;
     };
     let mut buffer = [0u8; MOST];
     let given = payload(next, s, &mut buffer);
-    let Payload::Given(size, n) = given else {
+    let Spelt::Bytes(size, n) = given else {
         return;
     };
     let bytes = front(&buffer, n);
@@ -117,16 +117,16 @@ pub fn read(line: Line, s: &[u8]) {
 
 pub fn feed(slots: Slots, line: Line, s: &[u8]) -> Slots {
     let r = argument(line, s, b"the slot number");
-    let Argument::Given(slot, next) = r else {
+    let Given::Number(slot, next) = r else {
         return slots;
     };
     let k = argument(next, s, b"the kind");
-    let Argument::Given(kind, rest) = k else {
+    let Given::Number(kind, rest) = k else {
         return slots;
     };
     let mut buffer = [0u8; MOST];
     let given = payload(rest, s, &mut buffer);
-    let Payload::Given(size, n) = given else {
+    let Spelt::Bytes(size, n) = given else {
         return slots;
     };
     let bytes = front(&buffer, n);

@@ -1,6 +1,6 @@
 // The calls on a slot that read no payload.
 use crate::call::Call;
-use crate::line::Argument;
+use crate::line::Given;
 use crate::line::Line;
 use crate::line::argument;
 use crate::line::only;
@@ -11,7 +11,6 @@ use show::text::number;
 use show::text::text;
 use slots::Called;
 use slots::Slots;
-ghost use Prim.Native.Nat.{_≤_};
 
 // The call itself, before its answer.
 pub fn echo(s: &[u8]) {
@@ -30,7 +29,7 @@ fn done(s: &[u8], c: Called) -> Slots {
 // Opening, closing and a sequence call.
 pub fn plain(slots: Slots, line: Line, s: &[u8]) -> Slots {
     let r = only(line, s, b"the slot number");
-    let Argument::Given(n, _) = r else {
+    let Given::Number(n, _) = r else {
         return slots;
     };
     let call = line.call;
@@ -43,7 +42,7 @@ pub fn plain(slots: Slots, line: Line, s: &[u8]) -> Slots {
 
 pub fn picture(slots: Slots, line: Line, s: &[u8]) -> Slots {
     let r = only(line, s, b"the slot number");
-    let Argument::Given(n, _) = r else {
+    let Given::Number(n, _) = r else {
         return slots;
     };
     let pictured = slots.picture(n);
@@ -56,19 +55,20 @@ pub fn picture(slots: Slots, line: Line, s: &[u8]) -> Slots {
     pictured.slots
 }
 
-// As many of the lent numbers as there can be: 16 regions for each of two frames fill 288.
-fn lent(n: u64) -> usize
-    ensures { λ r. ⌜ r ≤ 288 ⌝ }
-{
-    if n < 288 { n as usize } else { 288 }
+// The table in the first n of the numbers, or in all of them where there are no more.
+fn table_in(slots: Slots, slot: u64, n: u64, rows: &mut [u64]) -> Tabled {
+    if n < rows.len() as u64 {
+        let start = 0;
+        let end = n as usize;
+        return calls::table(slots, slot, &mut rows[start..end]);
+    }
+    calls::table(slots, slot, rows)
 }
 
-fn tabled(slots: Slots, slot: u64, n: usize)
-    requires { ⌜ n ≤ 288 ⌝ }
-{
+// 16 regions for each of two frames fill 288 numbers: lending more changes nothing.
+fn tabled(slots: Slots, slot: u64, n: u64) {
     let mut rows = [0u64; 288];
-    let start = 0;
-    let r = calls::table(slots, slot, &mut rows[start..n]);
+    let r = table_in(slots, slot, n, &mut rows);
     match r {
         Tabled::Rows(count) => {
             called(0);
@@ -83,13 +83,13 @@ fn tabled(slots: Slots, slot: u64, n: usize)
 
 pub fn table(slots: Slots, line: Line, s: &[u8]) {
     let r = argument(line, s, b"the slot number");
-    let Argument::Given(slot, next) = r else {
+    let Given::Number(slot, next) = r else {
         return;
     };
     let numbers = only(next, s, b"how many numbers are lent");
-    let Argument::Given(n, _) = numbers else {
+    let Given::Number(n, _) = numbers else {
         return;
     };
     echo(s);
-    tabled(slots, slot, lent(n));
+    tabled(slots, slot, n);
 }
