@@ -49,6 +49,13 @@ fn spelled(line: Line, s: &[u8], out: &mut [u8]) -> Spelt {
 
 // The same, with the size stated before them.
 fn stated(line: Line, s: &[u8], out: &mut [u8]) -> Spelt {
+    let at = line.at;
+    if at < s.len() {
+        if s[at] == b' ' {
+            wrong::missing(line, b"the size");
+            return Spelt::Wrong;
+        }
+    }
     let r = argument(line, s, b"the size");
     let Given::Number(size, next) = r else {
         return Spelt::Wrong;

@@ -39,7 +39,9 @@ fn called(slots: Slots, line: Line, s: &[u8]) -> Slots {
             slots
         }
         Call::Unknown => {
-            wrong::word(line, s, b"is no call");
+            let start = 0;
+            let end = find(s, start, b' ');
+            wrong::word(line, &s[start..end], b"is no call");
             slots
         }
     }

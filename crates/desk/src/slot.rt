@@ -9,6 +9,7 @@ use show::held::held;
 use show::number::called;
 use show::text::number;
 use show::text::text;
+use slots::Answer;
 use slots::Called;
 use slots::Slots;
 
@@ -49,8 +50,9 @@ pub fn picture(slots: Slots, line: Line, s: &[u8]) -> Slots {
     let answer = pictured.answer;
     echo(s);
     called(answer.number());
-    let records = pictured.held;
-    held(records);
+    if let Answer::Done = answer {
+        held(pictured.held);
+    }
     text(b"\n");
     pictured.slots
 }

@@ -1,9 +1,9 @@
 // The fields of a record, and of what a reader answers.
 use crate::depth_names::depth;
-use crate::field::Place;
 use crate::field::Style;
 use crate::field::field;
 use crate::names::alpha;
+use crate::names::carried;
 use crate::names::equirectangular;
 use crate::names::frame_packing;
 use crate::names::orientation;
@@ -34,15 +34,9 @@ pub fn record(style: Style, kind: u64, row: &[u64], part: &[u8]) {
 pub fn answer(style: Style, kind: u64, a: Answer, part: &[u8]) {
     let mut row = [0u64; 313];
     hand_out(&mut row, 0, a);
-    let place = Place {
-        from: 0,
-        index: 0,
-        outer: true,
-        inner: true,
-    };
     field(
         style,
-        place,
+        carried(true, true),
         a.extension as u64,
         b"0 extension|no bits after the message|bits after the message, as newer firmware may add; they are not used",
     );

@@ -82,35 +82,37 @@ fn specified(row: &[u64], from: usize)
     bits(pattern);
 }
 
-fn value(row: &[u64], from: usize)
+// A number that is coded, and the parts that code it.
+fn coded(row: &[u64], from: usize)
     requires { ⌜ from ≤ 256 ⌝ }
 {
-    let state = at(row, from + 4);
-    if state == 0 {
-        text(b"absent");
-    } else if state == 1 {
+    if at(row, from + 4) == 1 {
         text(b"unspecified");
     } else {
         specified(row, from);
     }
+    text(b" from");
+    let mut place = carried(true, true);
+    place.from = from;
+    fields(
+        Style::Line,
+        row,
+        place,
+        b"0 da_sign_flag\n0 da_exponent\n0 da_mantissa_len_minus1\n0 da_mantissa",
+    );
 }
 
-// A number, and the parts that code it.
 fn element(style: Style, flag: u64, name: &[u8], row: &[u64], from: usize)
     requires { ⌜ from ≤ 256 ⌝ }
 {
-    let mut place = carried(flag == 1);
-    place.from = from;
-    if shown(style, b'1', place) {
+    if shown(style, b'1', carried(flag == 1, true)) {
         apart(style);
         text(name);
-        value(row, from);
-        fields(
-            Style::Line,
-            row,
-            place,
-            b"0 da_sign_flag\n0 da_exponent\n0 da_mantissa_len_minus1\n0 da_mantissa",
-        );
+        if flag == 1 {
+            coded(row, from);
+        } else {
+            text(b"absent");
+        }
     }
 }
 
@@ -144,12 +146,16 @@ fn list(style: Style, row: &[u64], count: u64) {
     }
 }
 
+// The reference view is there where a disparity is.
+fn viewed(d_min_flag: u64, d_max_flag: u64) -> bool {
+    d_min_flag == 1 || d_max_flag == 1
+}
+
 pub fn depth(style: Style, row: &[u64]) {
-    let place = carried(at(row, 3) == 1 || at(row, 4) == 1);
     fields(
         style,
         row,
-        place,
+        carried(viewed(at(row, 3), at(row, 4)), true),
         b"0 z_near_flag|not coded|coded\n\
         0 z_far_flag|not coded|coded\n\
         0 d_min_flag|not coded|coded\n\
@@ -162,7 +168,7 @@ pub fn depth(style: Style, row: &[u64]) {
     if 0 < count {
         field(
             style,
-            place,
+            carried(true, true),
             count - 1,
             b"0 depth_nonlinear_representation_num_minus1",
         );

@@ -5,36 +5,44 @@ use crate::text::number;
 use crate::text::text;
 use slots::held::Held;
 
-fn line(kind: u64, on: u8, row: &[u64]) {
+// A kind's record, and whether one is held.
+fn line(kind: u64, on: u8, row: &[u64]) -> bool {
     if on == 1 {
         text(b"\n  ");
         number(kind);
         record(Style::Line, kind, row, b"");
+        return true;
     }
+    false
 }
 
-fn flat(held: Held) {
+fn flat(held: Held) -> bool {
     let stereo = held.frame_packing;
     let stereo_row = host::fields::frame_packing(0, stereo.value);
-    line(45, stereo.on, &stereo_row);
     let display = held.orientation;
     let display_row = host::fields::orientation(0, display.value);
-    line(47, display.on, &display_row);
+    let packed = line(45, stereo.on, &stereo_row);
+    let turned = line(47, display.on, &display_row);
+    packed || turned
 }
 
-fn spherical(held: Held) {
+fn spherical(held: Held) -> bool {
     let projection = held.equirectangular;
     let projection_row = host::fields::equirectangular(0, projection.value);
-    line(150, projection.on, &projection_row);
     let turn = held.rotation;
     let turn_row = host::fields::rotation(0, turn.value);
-    line(154, turn.on, &turn_row);
     let packing = held.regions;
     let packing_row = host::fields::packing(0, packing.value);
-    line(155, packing.on, &packing_row);
+    let projected = line(150, projection.on, &projection_row);
+    let turned = line(154, turn.on, &turn_row);
+    let packed = line(155, packing.on, &packing_row);
+    projected || turned || packed
 }
 
 pub fn held(held: Held) {
-    flat(held);
-    spherical(held);
+    let some_flat = flat(held);
+    let some_spherical = spherical(held);
+    if !(some_flat || some_spherical) {
+        text(b", nothing is held");
+    }
 }

@@ -4,24 +4,26 @@ use crate::field::Style;
 use crate::field::at;
 use crate::field::fields;
 
-// The fields after the extension's length; all that lie deeper than 0 hang on one condition.
-pub fn carried(outer: bool) -> Place {
+// The fields after the extension's length, and which of them the message carries.
+pub fn carried(outer: bool, inner: bool) -> Place {
     Place {
         from: 1,
         index: 0,
         outer,
-        inner: false,
+        inner,
     }
 }
 
 // The grid stands there unless the frames are quincunx sampled or alternate in time.
+fn placed(quincunx: u64, arrangement: u64) -> bool {
+    quincunx == 0 && arrangement != 5
+}
+
 pub fn frame_packing(style: Style, row: &[u64]) {
-    let mut place = carried(at(row, 2) == 0);
-    place.inner = at(row, 4) == 0 && at(row, 3) != 5;
     fields(
         style,
         row,
-        place,
+        carried(at(row, 2) == 0, placed(at(row, 4), at(row, 3))),
         b"0 fp_arrangement_id\n\
         0 fp_arrangement_cancel_flag|@c\n\
         1 fp_arrangement_type|reserved|reserved|reserved|side by side|top and bottom|the two frames alternate in time|reserved\n\
@@ -46,7 +48,7 @@ pub fn orientation(style: Style, row: &[u64]) {
     fields(
         style,
         row,
-        carried(at(row, 1) == 0),
+        carried(at(row, 1) == 0, true),
         b"0 display_orientation_cancel_flag|@c\n\
         1 display_orientation_persistence_flag|@p\n\
         1 display_orientation_transform_type|@t",
@@ -54,12 +56,10 @@ pub fn orientation(style: Style, row: &[u64]) {
 }
 
 pub fn equirectangular(style: Style, row: &[u64]) {
-    let mut place = carried(at(row, 1) == 0);
-    place.inner = at(row, 3) == 1;
     fields(
         style,
         row,
-        place,
+        carried(at(row, 1) == 0, at(row, 3) == 1),
         b"0 erp_cancel_flag|@c\n\
         1 erp_persistence_flag|@p\n\
         1 erp_guard_band_flag|no guard bands|guard bands\n\
@@ -70,12 +70,10 @@ pub fn equirectangular(style: Style, row: &[u64]) {
 }
 
 pub fn alpha(style: Style, row: &[u64]) {
-    let mut place = carried(at(row, 1) == 0);
-    place.inner = at(row, 7) == 1;
     fields(
         style,
         row,
-        place,
+        carried(at(row, 1) == 0, at(row, 7) == 1),
         b"0 alpha_channel_cancel_flag|fields follow|ends what was said\n\
         1 alpha_channel_use_idc|blending multiplies the picture by alpha|the picture is multiplied already|unspecified|reserved\n\
         1 alpha_channel_bit_depth_minus8|the bit depth of a sample, less 8\n\
@@ -91,7 +89,7 @@ pub fn registered(style: Style, row: &[u64]) {
     fields(
         style,
         row,
-        carried(at(row, 1) == 255),
+        carried(at(row, 1) == 255, true),
         b"0 itu_t_t35_country_code\n\
         1 itu_t_t35_country_code_extension_byte",
     );

@@ -62,7 +62,7 @@ pub fn region_wise(style: Style, row: &[u64]) {
     fields(
         style,
         row,
-        carried(at(row, 1) == 0),
+        carried(at(row, 1) == 0, true),
         b"0 rwp_cancel_flag|@c\n\
         1 rwp_persistence_flag|@p\n\
         1 rwp_constituent_picture_matching_flag|the regions hold for the whole picture|the regions hold for each of the two frames of kind 45\n\

@@ -42,7 +42,7 @@ fn angle(style: Style, name: &[u8], coded: u64, degrees: u64) {
 }
 
 pub fn rotation(style: Style, row: &[u64]) {
-    let place = carried(at(row, 1) == 0);
+    let place = carried(at(row, 1) == 0, true);
     fields(
         style,
         row,

@@ -12,7 +12,7 @@ pub fn table(rows: &[u64], count: u32) {
         text(b"\n  row ");
         number(i as u64);
         text(b":");
-        let mut place = carried(true);
+        let mut place = carried(true, true);
         place.from = 9 * (i as usize);
         fields(
             Style::Line,
