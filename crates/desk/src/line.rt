@@ -30,6 +30,14 @@ pub enum Given {
     Wrong,
 }
 
+fn complain(line: Line, word: &[u8], name: &[u8], why: Spelled) {
+    match why {
+        Spelled::Foreign => wrong::word(line, word, b"is no decimal number"),
+        Spelled::Large => wrong::word(line, word, b"does not fit 64 bits"),
+        _ => wrong::missing(line, name),
+    }
+}
+
 // The number at the line's place.
 pub fn argument(line: Line, s: &[u8], name: &[u8]) -> Given {
     let at = line.at;
@@ -39,17 +47,11 @@ pub fn argument(line: Line, s: &[u8], name: &[u8]) -> Given {
     }
     let end = find(s, at, b' ');
     let r = number(&s[at..end]);
-    match r {
-        Spelled::Value(n) => Given::Number(n, line.to(skip(s, end, b' '))),
-        Spelled::Foreign => {
-            wrong::word(line, &s[at..end], b"is no decimal number");
-            Given::Wrong
-        }
-        Spelled::Large => {
-            wrong::word(line, &s[at..end], b"does not fit 64 bits");
-            Given::Wrong
-        }
-    }
+    let Spelled::Value(n) = r else {
+        complain(line, &s[at..end], name, r);
+        return Given::Wrong;
+    };
+    Given::Number(n, line.to(skip(s, end, b' ')))
 }
 
 // The line's only number, with nothing after it.

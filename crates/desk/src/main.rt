@@ -4,6 +4,7 @@ mod explain;
 mod help;
 mod line;
 mod payload;
+mod read;
 mod reading;
 mod script;
 mod slot;

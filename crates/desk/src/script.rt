@@ -1,10 +1,9 @@
 // A line of a script, and what its call answers.
 use crate::call::Call;
-use crate::explain::explain;
 use crate::help::help;
 use crate::line::Line;
-use crate::payload::feed;
-use crate::payload::read;
+use crate::read::feed;
+use crate::read::read;
 use crate::slot::picture;
 use crate::slot::plain;
 use crate::slot::table;
@@ -14,34 +13,29 @@ use words::place::content;
 use words::place::find;
 use words::place::skip;
 
-fn called(slots: Slots, line: Line, s: &[u8]) -> Slots {
+// The calls that change no slot.
+fn asked(slots: Slots, line: Line, s: &[u8]) {
     let call = line.call;
     match call {
-        Call::Open => plain(slots, line, s),
-        Call::Close => plain(slots, line, s),
-        Call::Sequence => plain(slots, line, s),
-        Call::Picture => picture(slots, line, s),
-        Call::Feed => feed(slots, line, s),
-        Call::Table => {
-            table(slots, line, s);
-            slots
-        }
-        Call::Read => {
-            read(line, s);
-            slots
-        }
-        Call::Explain => {
-            explain(line, s);
-            slots
-        }
-        Call::Help => {
-            help();
-            slots
-        }
+        Call::Table => table(slots, line, s),
+        Call::Help => help(),
         Call::Unknown => {
             let start = 0;
             let end = find(s, start, b' ');
             wrong::word(line, &s[start..end], b"is no call");
+        }
+        _ => read(line, s),
+    }
+}
+
+fn called(slots: Slots, line: Line, s: &[u8]) -> Slots {
+    let call = line.call;
+    match call {
+        Call::Open | Call::Close | Call::Sequence => plain(slots, line, s),
+        Call::Picture => picture(slots, line, s),
+        Call::Feed => feed(slots, line, s),
+        _ => {
+            asked(slots, line, s);
             slots
         }
     }

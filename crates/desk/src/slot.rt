@@ -11,6 +11,7 @@ use show::text::number;
 use show::text::text;
 use slots::Answer;
 use slots::Called;
+use slots::Pictured;
 use slots::Slots;
 
 // The call itself, before its answer.
@@ -27,6 +28,14 @@ fn done(s: &[u8], c: Called) -> Slots {
     c.slots
 }
 
+fn applied(slots: Slots, call: Call, n: u64) -> Called {
+    match call {
+        Call::Open => slots.open(n),
+        Call::Close => slots.close(n),
+        _ => slots.sequence(n),
+    }
+}
+
 // Opening, closing and a sequence call.
 pub fn plain(slots: Slots, line: Line, s: &[u8]) -> Slots {
     let r = only(line, s, b"the slot number");
@@ -34,11 +43,19 @@ pub fn plain(slots: Slots, line: Line, s: &[u8]) -> Slots {
         return slots;
     };
     let call = line.call;
-    match call {
-        Call::Open => done(s, slots.open(n)),
-        Call::Close => done(s, slots.close(n)),
-        _ => done(s, slots.sequence(n)),
+    done(s, applied(slots, call, n))
+}
+
+// What is held, unless the call is refused.
+fn shown(s: &[u8], p: Pictured) -> Slots {
+    let answer = p.answer;
+    echo(s);
+    called(answer.number());
+    if let Answer::Done = answer {
+        held(p.held);
     }
+    text(b"\n");
+    p.slots
 }
 
 pub fn picture(slots: Slots, line: Line, s: &[u8]) -> Slots {
@@ -46,15 +63,7 @@ pub fn picture(slots: Slots, line: Line, s: &[u8]) -> Slots {
     let Given::Number(n, _) = r else {
         return slots;
     };
-    let pictured = slots.picture(n);
-    let answer = pictured.answer;
-    echo(s);
-    called(answer.number());
-    if let Answer::Done = answer {
-        held(pictured.held);
-    }
-    text(b"\n");
-    pictured.slots
+    shown(s, slots.picture(n))
 }
 
 // The table in the first n of the numbers, or in all of them where there are no more.
@@ -67,20 +76,23 @@ fn table_in(slots: Slots, slot: u64, n: u64, rows: &mut [u64]) -> Tabled {
     calls::table(slots, slot, rows)
 }
 
-// 16 regions for each of two frames fill 288 numbers: lending more changes nothing.
-fn tabled(slots: Slots, slot: u64, n: u64) {
-    let mut rows = [0u64; 288];
-    let r = table_in(slots, slot, n, &mut rows);
+fn shown_rows(r: Tabled, rows: &[u64]) {
     match r {
         Tabled::Rows(count) => {
-            called(0);
-            text(b", rows: ");
+            text(b"0 done, rows: ");
             number(count as u64);
-            show::table::table(&rows, count);
+            show::table::table(rows, count);
         }
         Tabled::Refused(why) => called(why.number()),
     }
     text(b"\n");
+}
+
+// 16 regions for each of two frames fill 288 numbers: lending more changes nothing.
+fn tabled(slots: Slots, slot: u64, n: u64) {
+    let mut rows = [0u64; 288];
+    let r = table_in(slots, slot, n, &mut rows);
+    shown_rows(r, &rows);
 }
 
 pub fn table(slots: Slots, line: Line, s: &[u8]) {

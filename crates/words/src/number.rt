@@ -1,6 +1,8 @@
 // Decimal numbers. One that does not fit 64 bits is none.
 pub enum Spelled {
     Value(u64),
+    // There is nothing.
+    Empty,
     // There is a character that is no digit.
     Foreign,
     // It does not fit 64 bits.
@@ -26,6 +28,9 @@ fn with_digit(n: Spelled, b: u8) -> Spelled {
 }
 
 pub fn number(s: &[u8]) -> Spelled {
+    if s.len() == 0 {
+        return Spelled::Empty;
+    }
     let mut n = Spelled::Value(0);
     let mut i = 0;
     while i < s.len() {
