@@ -41,7 +41,7 @@ fn kinds() {
         \x20 4 user data registered by T.35   5 user data unregistered       45 frame packing arrangement\n\
         \x20 47 display orientation           150 equirectangular projection 154 sphere rotation\n\
         \x20 155 region-wise packing          165 alpha channel information  177 depth representation information\n\n\
-        Numbers that a call answers:",
+        Numbers that a call answers (0 is done for a call that reads nothing):",
     );
 }
 

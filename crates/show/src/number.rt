@@ -30,7 +30,7 @@ pub fn called(n: u32) {
 
 pub fn sentence(n: u32) {
     piece(
-        b"Taken: the payload is a message within the rules. Of a call that reads nothing: done.|\
+        b"Taken: the payload is a message within the rules.|\
         Refused: the kind is none of the nine that are read.|\
         Refused: the stated size exceeds 8192 or the bytes that are there.|\
         Refused: the payload ends before its message does.|\

@@ -1,10 +1,11 @@
 // Bytes in hex.
 ghost use Prim.Native.Nat.{_+_, _<_, _≤_};
 ghost use lib.ListN.{length};
+ghost use Rattle.words.specs.Hex.{Spells};
 
 // What a character spells: a digit's value, or 16 where it is none.
 pub fn digit(b: u8) -> u8
-    ensures { λ r. ⌜ r < 17 ⌝ }
+    ensures { λ r. ⌜ Spells b r × (r < 17) ⌝ }
 {
     match b {
         b'0'..=b'9' => b - b'0',
@@ -27,18 +28,15 @@ pub enum Hex {
 
 // The byte whose two digits stand at i.
 fn pair(s: &[u8], i: usize) -> Hex
-    requires { ⌜ i < length (now s) ⌝ }
+    requires { ⌜ i + 1 < length (now s) ⌝ }
 {
+    let next = i + 1;
+    if s[next] == b' ' {
+        return Hex::Odd;
+    }
     let high = digit(s[i]);
     if high == 16 {
         return Hex::Foreign(i);
-    }
-    let next = i + 1;
-    if next == s.len() {
-        return Hex::Odd;
-    }
-    if s[next] == b' ' {
-        return Hex::Odd;
     }
     let low = digit(s[next]);
     if low == 16 {
@@ -55,6 +53,9 @@ pub fn bytes(s: &[u8], from: usize, out: &mut [u8]) -> Hex {
         if s[i] == b' ' {
             i += 1;
         } else {
+            if s.len() - i < 2 {
+                return Hex::Odd;
+            }
             let r = pair(s, i);
             let Hex::Bytes(b) = r else {
                 return r;
@@ -64,10 +65,7 @@ pub fn bytes(s: &[u8], from: usize, out: &mut [u8]) -> Hex {
             }
             out[n] = (b % 256) as u8;
             n += 1;
-            i += 1;
-            if i < s.len() {
-                i += 1;
-            }
+            i += 2;
         }
     }
     Hex::Bytes(n)

@@ -1,4 +1,7 @@
 // Decimal numbers. One that does not fit 64 bits is none.
+ghost use mathlib.Core.Path.{_≡_};
+ghost use Rattle.words.specs.Number.{withDigit, numberOf};
+
 pub enum Spelled {
     Value(u64),
     // There is nothing.
@@ -10,10 +13,9 @@ pub enum Spelled {
 }
 
 // The number with one digit more.
-fn with_digit(n: Spelled, b: u8) -> Spelled {
-    let Spelled::Value(v) = n else {
-        return n;
-    };
+fn with_digit(v: u64, b: u8) -> Spelled
+    ensures { λ r. ⌜ r ≡ withDigit v b ⌝ }
+{
     if b < b'0' {
         return Spelled::Foreign;
     }
@@ -27,15 +29,23 @@ fn with_digit(n: Spelled, b: u8) -> Spelled {
     Spelled::Value(v * 10 + d)
 }
 
-pub fn number(s: &[u8]) -> Spelled {
+pub fn number(s: &[u8]) -> Spelled
+    ensures { λ r. ⌜ r ≡ numberOf (now (s .entry)) ⌝ }
+{
     if s.len() == 0 {
         return Spelled::Empty;
     }
-    let mut n = Spelled::Value(0);
+    let mut v: u64 = 0;
     let mut i = 0;
     while i < s.len() {
-        n = with_digit(n, s[i]);
+        let r = with_digit(v, s[i]);
+        match r {
+            Spelled::Value(next) => v = next,
+            Spelled::Empty => return Spelled::Empty,
+            Spelled::Foreign => return Spelled::Foreign,
+            Spelled::Large => return Spelled::Large,
+        }
         i += 1;
     }
-    n
+    Spelled::Value(v)
 }
