@@ -1,5 +1,5 @@
 // The calls by name.
-use words::place::among;
+use words::place::find;
 
 pub enum Call {
     Open,
@@ -12,6 +12,22 @@ pub enum Call {
     Explain,
     Help,
     Unknown,
+}
+
+// The place of a word in a list, each with a bar after it; the list's count where it is none of them.
+fn among(list: &[u8], word: &[u8]) -> u64 {
+    let mut n: u64 = 0;
+    let mut at = 0;
+    let mut end = find(list, 0, b'|');
+    while end < list.len() {
+        if check::same(&list[at..end], word) {
+            return n;
+        }
+        n += 1;
+        at = end + 1;
+        end = find(list, at, b'|');
+    }
+    n
 }
 
 impl Call {

@@ -12,7 +12,7 @@ use crate::slot::echo;
 use reader::answer::Answer;
 use reader::user::user_part;
 use show::answer::answer;
-use show::field::Style;
+use show::style::Style;
 use show::text::text;
 use slots::Slots;
 

@@ -1,6 +1,5 @@
 // The fields of a record, and of what a reader answers.
 use crate::depth_names::depth;
-use crate::field::Style;
 use crate::field::field;
 use crate::names::alpha;
 use crate::names::carried;
@@ -9,6 +8,7 @@ use crate::names::frame_packing;
 use crate::names::orientation;
 use crate::region_names::region_wise;
 use crate::rotation_names::rotation;
+use crate::style::Style;
 use crate::user_names::registered;
 use crate::user_names::unregistered;
 use host::handing::hand_out;

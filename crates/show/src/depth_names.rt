@@ -1,7 +1,6 @@
 // Kind 177, depth representation information. Each of the four numbers has six of the row: sign, exponent, mantissa length less one, mantissa,
 // whether it is absent (0), unspecified (1) or a number (2), and the number's 64 bits.
 use crate::field::Place;
-use crate::field::Style;
 use crate::field::apart;
 use crate::field::at;
 use crate::field::field;
@@ -10,6 +9,7 @@ use crate::field::shown;
 use crate::fraction::decimal;
 use crate::fraction::power;
 use crate::names::carried;
+use crate::style::Style;
 use crate::text::bits;
 use crate::text::number;
 use crate::text::text;
@@ -53,11 +53,10 @@ fn product(m: u64, e: u64, v: u64)
     }
 }
 
-// The number that an exponent e and a mantissa n of v bits stand for. A mantissa has at most 32 bits: no row has more.
-fn magnitude(e: u64, v: u64, n: u64) {
-    if 32 < v {
-        return;
-    }
+// The number that an exponent e and a mantissa n of v bits stand for.
+fn magnitude(e: u64, v: u64, n: u64)
+    requires { ⌜ v ≤ 32 ⌝ }
+{
     if e == 0 {
         product(n, 1, v);
     } else {

@@ -1,15 +1,9 @@
 // A field: its name, its value and, where a message is explained, what the value means.
 use crate::scan::piece;
+use crate::style::Style;
 use crate::text::number;
 use crate::text::text;
 use words::place::find;
-
-pub enum Style {
-    // Every field of a record, in one line.
-    Line,
-    // The fields that the message carries, one a line, with what they mean.
-    Explained,
-}
 
 // Where a row's fields stand, and which of them the message carries.
 pub struct Place {

@@ -1,6 +1,6 @@
 // What a picture shows: the held records, each on a line of its own.
 use crate::answer::record;
-use crate::field::Style;
+use crate::style::Style;
 use crate::text::number;
 use crate::text::text;
 use slots::held::Held;

@@ -1,8 +1,8 @@
 // The names of kinds 4, 45, 47, 150 and 165, and what their values mean. A line begins with how deep its field lies (`field::shown`).
 use crate::field::Place;
-use crate::field::Style;
 use crate::field::at;
 use crate::field::fields;
+use crate::style::Style;
 
 // The fields after the extension's length, and which of them the message carries.
 pub fn carried(outer: bool, inner: bool) -> Place {

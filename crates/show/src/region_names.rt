@@ -1,9 +1,9 @@
 // Kind 155, region-wise packing. A region has 19 numbers of the row, the first region's from 9 on.
 use crate::field::Place;
-use crate::field::Style;
 use crate::field::at;
 use crate::field::fields;
 use crate::names::carried;
+use crate::style::Style;
 use crate::text::text;
 use regions::MOST;
 ghost use Prim.Native.Nat.{_≤_};

@@ -1,11 +1,11 @@
 // Kind 154, sphere rotation.
-use crate::field::Style;
 use crate::field::apart;
 use crate::field::at;
 use crate::field::fields;
 use crate::field::shown;
 use crate::fraction::decimal;
 use crate::names::carried;
+use crate::style::Style;
 use crate::text::bits;
 use crate::text::number;
 use crate::text::text;

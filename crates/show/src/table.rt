@@ -1,7 +1,7 @@
 // The rows of a region table, by the names of 8.15.5.2.
-use crate::field::Style;
 use crate::field::fields;
 use crate::names::carried;
+use crate::style::Style;
 use crate::text::number;
 use crate::text::text;
 

@@ -1,8 +1,8 @@
 // What follows the head of kinds 4 and 5, and the identifier of kind 5.
-use crate::field::Style;
 use crate::field::apart;
 use crate::field::at;
 use crate::names;
+use crate::style::Style;
 use crate::text::bytes;
 use crate::text::printable;
 use crate::text::text;

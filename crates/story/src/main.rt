@@ -1,9 +1,9 @@
 // Two runs of calls with what each answers: the slot example of 01, and a slot that passes from one camera to another.
 use calls::feed;
 use show::answer::answer;
-use show::field::Style;
 use show::number::called;
 use show::number::read;
+use show::style::Style;
 use show::text::text;
 use slots::Called;
 use slots::Slots;

@@ -3,7 +3,7 @@
 use reader::payload::read;
 use reader::user::user_part;
 use show::answer::answer;
-use show::field::Style;
+use show::style::Style;
 use show::text::number;
 use show::text::text;
 use words::hex::Hex;

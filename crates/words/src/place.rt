@@ -1,26 +1,24 @@
 // Places in a text.
-ghost use Prim.Native.Nat.{_≤_};
-ghost use lib.ListN.{length};
+ghost use mathlib.Core.Path.{_≡_};
+ghost use Prim.Native.Nat.{ℕ, _+_, _≤_, _<_};
+ghost use lib.ListN.{length, getD};
+ghost use Rattle.bytes.specs.Bytes.{indexOf, slice};
 
 // Where b first stands, from a place on; the text's length where it does not.
 pub fn find(s: &[u8], from: usize, b: u8) -> usize
     requires { ⌜ from ≤ length (now s) ⌝ }
+    ensures { λ r. ⌜ r ≡ from + indexOf b (slice from (length (now (s .entry))) (now (s .entry))) ⌝ }
     ensures { λ r. ⌜ (from ≤ r) × (r ≤ length (now (s .entry))) ⌝ }
 {
-    let mut i = from;
-    while i < s.len() {
-        if s[i] == b {
-            return i;
-        }
-        i += 1;
-    }
-    i
+    bytes::scan::find(s, from, s.len(), b)
 }
 
 // Where something else than b first stands.
 pub fn skip(s: &[u8], from: usize, b: u8) -> usize
     requires { ⌜ from ≤ length (now s) ⌝ }
-    ensures { λ r. ⌜ (from ≤ r) × (r ≤ length (now (s .entry))) ⌝ }
+    ensures within { λ r. ⌜ (from ≤ r) × (r ≤ length (now (s .entry))) ⌝ }
+    ensures before { λ r. ⌜ ((k : ℕ) → k < r → from ≤ k → getD (now (s .entry)) k 0 ≡ b) ⌝ }
+    ensures stopped { λ r. ⌜ (r < length (now (s .entry)) → getD (now (s .entry)) r 0 ≡ b → ⊥) ⌝ }
 {
     let mut i = from;
     while i < s.len() {
@@ -55,20 +53,4 @@ pub fn content(s: &[u8]) -> &[u8] {
         return &s[from..from];
     }
     &s[from..to]
-}
-
-// The place of a word in a list with bars between; the list's count where it is none of them.
-pub fn among(list: &[u8], word: &[u8]) -> u64 {
-    let mut n: u64 = 0;
-    let mut at = 0;
-    let mut end = find(list, 0, b'|');
-    while end < list.len() {
-        if check::same(&list[at..end], word) {
-            return n;
-        }
-        n += 1;
-        at = end + 1;
-        end = find(list, at, b'|');
-    }
-    n
 }
