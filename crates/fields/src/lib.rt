@@ -1,6 +1,6 @@
 // An answer's record as numbers in a lent row, for callers that have no records.
-mod handing;
-mod record;
+pub mod handing;
+pub mod record;
 mod row;
 
 use crate::handing::hand_out;

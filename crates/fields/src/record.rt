@@ -80,7 +80,7 @@ pub fn equirectangular(extension: u32, a: Equirectangular) -> [u64; 7]
 }
 
 // The 32 bits of a number in two's complement.
-pub fn twos(c: i32) -> u64
+fn twos(c: i32) -> u64
     ensures { λ r. ⌜ r ≡ twosOf c ⌝ }
 {
     if 0 <= c {
@@ -108,7 +108,7 @@ pub fn rotation(extension: u32, a: Rotation) -> [u64; 9]
     ]
 }
 
-pub fn alpha(extension: u32, a: Alpha) -> [u64; 9]
+pub(crate) fn alpha(extension: u32, a: Alpha) -> [u64; 9]
     ensures { λ r. ⌜ r ≡ extension ∷ alphaFields a ⌝ }
 {
     [
@@ -124,7 +124,7 @@ pub fn alpha(extension: u32, a: Alpha) -> [u64; 9]
     ]
 }
 
-pub fn registered(extension: u32, a: Registered) -> [u64; 3]
+pub(crate) fn registered(extension: u32, a: Registered) -> [u64; 3]
     ensures { λ r. ⌜ r ≡ extension ∷ registeredFields a ⌝ }
 {
     [
@@ -134,7 +134,7 @@ pub fn registered(extension: u32, a: Registered) -> [u64; 3]
     ]
 }
 
-pub fn state(n: DepthNumber) -> u64
+fn state(n: DepthNumber) -> u64
     ensures { λ r. ⌜ r ≡ stateOf n ⌝ }
 {
     match n {
@@ -145,7 +145,7 @@ pub fn state(n: DepthNumber) -> u64
 }
 
 // The 64 bits of the number that the parts stand for. Parts that no element codes stand for none.
-pub fn number_bits(sign: u8, exponent: u8, length_minus1: u8, mantissa: u32) -> u64
+fn number_bits(sign: u8, exponent: u8, length_minus1: u8, mantissa: u32) -> u64
     ensures { λ r. ⌜ r ≡ bitsOf sign exponent «length_minus1» mantissa ⌝ }
 {
     if 1 < sign {
@@ -165,7 +165,7 @@ pub fn number_bits(sign: u8, exponent: u8, length_minus1: u8, mantissa: u32) -> 
     depth_bits(sign, exponent, length_minus1, mantissa)
 }
 
-pub fn value(a: DepthValue) -> [u64; 6]
+fn value(a: DepthValue) -> [u64; 6]
     ensures { λ r. ⌜ r ≡ valueFields a ⌝ }
 {
     let number = a.number;
@@ -179,7 +179,7 @@ pub fn value(a: DepthValue) -> [u64; 6]
     ]
 }
 
-pub fn put_value(row: &mut [u64], at: usize, a: DepthValue)
+fn put_value(row: &mut [u64], at: usize, a: DepthValue)
     requires { ⌜ at + 6 ≤ length (now row) ⌝ }
     ensures { λ _. ⌜ now (row .exit) ≡ sets (now (row .entry)) at (valueFields a) ⌝ }
 {
@@ -187,7 +187,7 @@ pub fn put_value(row: &mut [u64], at: usize, a: DepthValue)
     put(row, at, &fields);
 }
 
-pub fn depth(extension: u32, a: Depth) -> [u64; 95]
+pub(crate) fn depth(extension: u32, a: Depth) -> [u64; 95]
     ensures { λ r. ⌜ r ≡ extension ∷ depthFields a ⌝ }
 {
     let z_near = a.z_near;
@@ -216,7 +216,7 @@ pub fn depth(extension: u32, a: Depth) -> [u64; 95]
     r
 }
 
-pub fn unregistered(extension: u32, a: Unregistered) -> [u64; 17]
+pub(crate) fn unregistered(extension: u32, a: Unregistered) -> [u64; 17]
     ensures { λ r. ⌜ r ≡ extension ∷ a .identifier ⌝ }
 {
     let identifier = a.identifier;
@@ -226,7 +226,7 @@ pub fn unregistered(extension: u32, a: Unregistered) -> [u64; 17]
     r
 }
 
-pub fn region(a: Region) -> [u64; 19]
+fn region(a: Region) -> [u64; 19]
     ensures { λ r. ⌜ r ≡ regionFields a ⌝ }
 {
     let projected = a.projected;
@@ -256,7 +256,7 @@ pub fn region(a: Region) -> [u64; 19]
     ]
 }
 
-pub fn put_region(row: &mut [u64], at: usize, a: Region)
+fn put_region(row: &mut [u64], at: usize, a: Region)
     requires { ⌜ at + 19 ≤ length (now row) ⌝ }
     ensures { λ _. ⌜ now (row .exit) ≡ sets (now (row .entry)) at (regionFields a) ⌝ }
 {
@@ -265,7 +265,7 @@ pub fn put_region(row: &mut [u64], at: usize, a: Region)
 }
 
 // Nineteen numbers a region, from `at` on.
-pub fn put_regions(row: &mut [u64], at: usize, regions: [Region; MOST])
+fn put_regions(row: &mut [u64], at: usize, regions: [Region; MOST])
     requires { ⌜ at + 19 * most ≤ length (now row) ⌝ }
     ensures { λ _. ⌜ now (row .exit) ≡ sets (now (row .entry)) at (regionsFields regions) ⌝ }
 {

@@ -8,7 +8,7 @@ ghost use lib.Seq.{sets};
 ghost use Rattle.fields.specs.Fields.{written, handed};
 
 // Narrower numbers, at `at` and after it: the identifier of kind 5, and the list of kind 177.
-pub fn put_identifier(row: &mut [u64], at: usize, from: [u8; 16])
+pub(crate) fn put_identifier(row: &mut [u64], at: usize, from: [u8; 16])
     requires { ⌜ at + 16 ≤ length (now row) ⌝ }
     ensures { λ _. ⌜ now (row .exit) ≡ sets (now (row .entry)) at from ⌝ }
 {
@@ -19,7 +19,7 @@ pub fn put_identifier(row: &mut [u64], at: usize, from: [u8; 16])
     }
 }
 
-pub fn put_model(row: &mut [u64], at: usize, from: [u16; 63])
+pub(crate) fn put_model(row: &mut [u64], at: usize, from: [u16; 63])
     requires { ⌜ at + 63 ≤ length (now row) ⌝ }
     ensures { λ _. ⌜ now (row .exit) ≡ sets (now (row .entry)) at from ⌝ }
 {
@@ -30,20 +30,20 @@ pub fn put_model(row: &mut [u64], at: usize, from: [u16; 63])
     }
 }
 
-pub fn byte(x: u8) -> u64
+fn byte(x: u8) -> u64
     ensures { λ r. ⌜ r ≡ x ⌝ }
 {
     x as u64
 }
 
-pub fn word(x: u16) -> u64
+fn word(x: u16) -> u64
     ensures { λ r. ⌜ r ≡ x ⌝ }
 {
     x as u64
 }
 
 // The fields, all or none: the number is then 10.
-pub fn hand(row: &mut [u64], number: u32, fields: &[u64]) -> u32
+pub(crate) fn hand(row: &mut [u64], number: u32, fields: &[u64]) -> u32
     ensures { λ r. ⌜ written r (now (row .exit)) ≡ handed number (now (fields .entry)) (now (row .entry)) ⌝ }
 {
     if row.len() < fields.len() {

@@ -1,69 +1,41 @@
 // Two runs of calls with what each answers: the slot example of 01, and a slot that passes from one camera to another.
 use calls::feed;
-use held::HeldFramePacking;
-use libc::STDOUT_FILENO;
+use show::answer::answer;
+use show::number::called;
+use show::number::read;
+use show::style::Style;
+use show::text::text;
 use slots::Called;
 use slots::Slots;
 
-fn number(n: u32) -> u64 {
-    n as u64
-}
-
-fn flag(n: u8) -> u64 {
-    n as u64
-}
-
-fn say(words: &[u8]) {
-    io::write_all(STDOUT_FILENO, words);
-}
-
-fn say_number(n: u64) {
-    io::print_decimal(STDOUT_FILENO, n);
-}
-
 // A call that answers a number only; the slots after it.
-fn done(words: &[u8], called: Called) -> Slots {
-    let answer = called.answer;
-    say(words);
-    say_number(number(answer.number()));
-    say(b"\n");
-    called.slots
+fn done(words: &[u8], call: Called) -> Slots {
+    let answer = call.answer;
+    text(words);
+    called(answer.number());
+    text(b"\n");
+    call.slots
 }
 
 // A feed of kind 45 to slot 3; the slots after it.
 fn fed(words: &[u8], slots: Slots, bytes: &[u8]) -> Slots {
     let fed = feed(slots, 3, 45, bytes.len() as u64, bytes);
-    let answer = fed.answer;
-    say(words);
-    say_number(number(answer.number()));
-    say(b", extension ");
-    say_number(number(answer.extension));
-    say(b"\n");
+    let a = fed.answer;
+    text(words);
+    read(a.number());
+    answer(Style::Line, 45, a, b"");
+    text(b"\n");
     fed.slots
 }
 
-fn say_packing(held: HeldFramePacking) {
-    if held.on == 1 {
-        let layout = held.value.layout;
-        say(b"type ");
-        say_number(flag(layout.arrangement_type));
-        say(b", persistence ");
-        say_number(flag(layout.persistence));
-    } else {
-        say(b"nothing");
-    }
-}
-
-// A picture of slot 3, as far as its frame packing goes; the slots after it.
+// A picture of slot 3; the slots after it.
 fn picture(slots: Slots) -> Slots {
     let pictured = slots.picture(3);
     let answer = pictured.answer;
-    let held = pictured.held;
-    say(b"picture: ");
-    say_number(number(answer.number()));
-    say(b", ");
-    say_packing(held.frame_packing);
-    say(b"\n");
+    text(b"picture: ");
+    called(answer.number());
+    show::held::held(pictured.held);
+    text(b"\n");
     pictured.slots
 }
 
@@ -98,6 +70,6 @@ fn handover() {
 
 fn main() {
     example();
-    say(b"\n");
+    text(b"\n");
     handover();
 }

@@ -1,141 +1,76 @@
 // Reads lines 'KIND SIZE BYTES' from the file that the first argument names, two decimal numbers and the lent bytes in hex, hands each to
-// the reader, and writes the call and its answer. What stands after '#' is a comment.
-ghost use Prim.Native.Nat.{_<_};
-
-mod show;
-
-// A line, as far as it is read.
-struct Line {
-    kind: u64,
-    size: u64,
-    count: usize,
-    high: u8,
-    odd: bool,
-    // Whether there is anything before the comment.
-    seen: bool,
-    // 0: in the kind; 1: in the size; 2: in the bytes; 3: in the comment.
-    place: u8,
-    bytes: [u8; 256],
-}
-
-fn fresh() -> Line {
-    Line {
-        kind: 0,
-        size: 0,
-        count: 0,
-        high: 0,
-        odd: false,
-        seen: false,
-        place: 0,
-        bytes: [0u8; 256],
-    }
-}
-
-fn digit(b: u8) -> u8
-    ensures { λ r. ⌜ r < 16 ⌝ }
-{
-    if b < b'0' {
-        return 0;
-    }
-    if b <= b'9' {
-        return b - b'0';
-    }
-    if b < b'A' {
-        return 0;
-    }
-    if b <= b'F' {
-        return b - b'A' + 10;
-    }
-    0
-}
+// the reader, and writes the call and its answer, with the fields that a refusal comes with too. What stands after '#' is a comment.
+use reader::payload::read;
+use reader::user::user_part;
+use show::answer::answer;
+use show::style::Style;
+use show::text::number;
+use show::text::text;
+use words::hex::Hex;
+use words::number::Spelled;
+use words::place::content;
+use words::place::find;
+use words::place::skip;
 
 fn report(kind: u64, size: u64, bytes: &[u8]) {
-    show::text(b"kind");
-    show::decimal(kind);
-    show::number(b"size", size);
-    show::bytes(b"bytes", bytes);
-    show::text(b":");
-    show::answer(reader::payload::read(kind, size, bytes));
-    show::bytes(b"part", reader::user::user_part(kind, size, bytes));
-    show::text(b"\n");
+    text(b"kind ");
+    number(kind);
+    text(b" size ");
+    number(size);
+    text(b" bytes ");
+    show::text::bytes(bytes);
+    text(b": ");
+    let a = read(kind, size, bytes);
+    show::number::read(a.number());
+    answer(Style::Line, kind, a, user_part(kind, size, bytes));
+    text(b"\n");
 }
 
-fn report_part(kind: u64, size: u64, n: usize, bytes: &[u8]) {
+fn value(s: &[u8]) -> u64 {
+    let r = words::number::number(s);
+    let Spelled::Value(n) = r else {
+        return 0;
+    };
+    n
+}
+
+fn spelled(kind: u64, size: u64, s: &[u8], at: usize) {
+    let mut bytes = [0u8; 256];
+    let r = words::hex::bytes(s, at, &mut bytes);
+    let Hex::Bytes(n) = r else {
+        return;
+    };
     if n <= bytes.len() {
         let start = 0;
         report(kind, size, &bytes[start..n]);
     }
 }
 
-// The bytes' next digit.
-fn with_digit(l: Line, d: u8) -> Line
-    requires { ⌜ d < 16 ⌝ }
-{
-    let mut n = l;
-    let at = n.count;
-    if !n.odd {
-        n.high = d;
-        n.odd = true;
-        return n;
-    }
-    n.odd = false;
-    if at < 256 {
-        n.bytes[at] = n.high % 16 * 16 + d;
-        n.count = at + 1;
-    }
-    n
-}
-
-fn next_place(place: u8) -> u8 {
-    if place < 2 { place + 1 } else { place }
-}
-
-// The line with one byte more of the file.
-fn step(l: Line, b: u8) -> Line {
-    let mut next = l;
-    if next.place == 3 {
-        return next;
-    }
-    if b == b'#' {
-        next.place = 3;
-        return next;
-    }
-    if b == b' ' {
-        next.place = next_place(next.place);
-        return next;
-    }
-    next.seen = true;
-    let d = digit(b);
-    if next.place == 2 {
-        return with_digit(next, d);
-    }
-    if next.place == 1 {
-        next.size = next.size % 1000000 * 10 + (d as u64);
-        return next;
-    }
-    next.kind = next.kind % 1000000 * 10 + (d as u64);
-    next
-}
-
-fn end(l: Line) {
-    if l.seen {
-        let n = l.count;
-        let bytes = l.bytes;
-        report_part(l.kind, l.size, n, &bytes);
+fn entry(line: &[u8]) {
+    let s = content(line);
+    let kind = 0;
+    let kind_end = find(s, kind, b' ');
+    let size = skip(s, kind_end, b' ');
+    let size_end = find(s, size, b' ');
+    if size < size_end {
+        spelled(
+            value(&s[kind..kind_end]),
+            value(&s[size..size_end]),
+            s,
+            skip(s, size_end, b' '),
+        );
     }
 }
 
 fn run(s: &[u8]) {
-    let mut l = fresh();
-    let mut i = 0;
-    while i < s.len() {
-        if s[i] == b'\n' {
-            end(l);
-            l = fresh();
-        } else {
-            l = step(l, s[i]);
+    let mut at = 0;
+    while at < s.len() {
+        let end = find(s, at, b'\n');
+        entry(&s[at..end]);
+        if end == s.len() {
+            return;
         }
-        i += 1;
+        at = end + 1;
     }
 }
 

@@ -1,10 +1,10 @@
--- `vectors::show::hex` is safe and ends.
+-- `show::text::hex` is safe and ends.
 -- Assumes nothing.
 use Prim.Native.Nat.{_≤_, _-_}
-use borrow.Author.Needs.{needs}
 use lib.ListN.{length}
-use Rattle.vectors.proofs.show.hex.Statement.{statement}
-use Rattle.vectors.proofs.show.hex.Tie as tie
+use borrow.Author.Needs.{needs}
+use Rattle.show.proofs.text.hex.Statement.{statement}
+use Rattle.show.proofs.text.hex.Tie as tie
 
 abbrev Inv-loop : tie.InvT-loop
 Inv-loop s i₀ i = i ≤ length s

@@ -1,0 +1,29 @@
+-- `show::depth_names::list` is safe and ends.
+-- Assumes nothing.
+use Prim.Native.Nat.{_≤_, _-_}
+use borrow.Author.Needs.{needs}
+use Rattle.show.proofs.depth_names.list.Statement.{statement}
+use Rattle.show.proofs.depth_names.list.Tie as tie
+
+abbrev Inv-loop : tie.InvT-loop
+Inv-loop style row count i₀ t6 i = i ≤ count
+
+abbrev μ-loop : tie.MeasureT-loop
+μ-loop style row count i₀ t6 i = count - i
+
+pub list-spec : {M : Type 1} → statement M
+list-spec =
+    tie.close
+    (tie.spec
+    Inv-loop
+    μ-loop
+    (λ c. search needs)
+    (λ c. search needs)
+    (λ c. search needs)
+    (λ c. search needs)
+    (λ c. search needs)
+    (λ c κs. search needs)
+    (λ c. search needs)
+    (λ c. search needs)
+    (λ c. search needs)
+    (λ c. search needs))

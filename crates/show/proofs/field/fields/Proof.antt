@@ -1,0 +1,35 @@
+-- `show::field::fields` is safe and ends.
+-- Assumes nothing.
+use Prim.Native.Nat.{_≤_, _-_}
+use lib.ListN.{length}
+use borrow.Author.Needs.{needs}
+use Rattle.show.proofs.field.fields.Statement.{statement}
+use Rattle.show.proofs.field.fields.Tie as tie
+
+abbrev Inv-loop : tie.InvT-loop
+Inv-loop style row place lines i₀ p₀ i p = p ≤ length lines
+
+abbrev μ-loop : tie.MeasureT-loop
+μ-loop style row place lines i₀ p₀ i p = length lines - p
+
+pub fields-spec : {M : Type 1} → statement M
+fields-spec =
+    tie.close
+    (tie.spec
+    Inv-loop
+    μ-loop
+    (λ c. search needs)
+    (λ c κs. search needs)
+    (λ c. search needs)
+    (λ c. search needs)
+    (λ c. search needs)
+    (λ c. search needs)
+    (λ c. search needs)
+    (λ c. search needs)
+    (λ c κs. search needs)
+    (λ c. search needs)
+    (λ c. search needs)
+    (λ c. search needs)
+    (λ c. search needs)
+    (λ c. search needs)
+    (λ c. search needs))

@@ -1,0 +1,133 @@
+// A field: its name, its value and, where a message is explained, what the value means.
+use crate::scan::piece;
+use crate::style::Style;
+use crate::text::number;
+use crate::text::text;
+use words::place::find;
+
+// Where a row's fields stand, and which of them the message carries.
+pub struct Place {
+    pub from: usize,
+    // The index in their names, for a '#'.
+    pub index: u64,
+    pub outer: bool,
+    pub inner: bool,
+}
+
+// The number at a place of a row; 0 past its end.
+pub fn at(row: &[u64], i: usize) -> u64 {
+    if i < row.len() { row[i] } else { 0 }
+}
+
+// What goes before a field.
+pub fn apart(style: Style) {
+    match style {
+        Style::Line => text(b" "),
+        Style::Explained => text(b"\n  "),
+    }
+}
+
+// Whether a field is shown, by how deep it lies: 0 is always carried, 1 where the outer condition holds, 2 where both do.
+pub fn shown(style: Style, depth: u8, place: Place) -> bool {
+    match style {
+        Style::Line => true,
+        Style::Explained => {
+            if depth == b'0' {
+                return true;
+            }
+            if place.outer {
+                if depth == b'1' { true } else { place.inner }
+            } else {
+                false
+            }
+        }
+    }
+}
+
+// A name, with the index where it has a '#'.
+fn name(s: &[u8], index: u64) {
+    let start = 0;
+    let hash = find(s, start, b'#');
+    text(&s[start..hash]);
+    if hash < s.len() {
+        number(index);
+        let after = hash + 1;
+        text(&s[after..]);
+    }
+}
+
+// Meanings that several kinds share, by a letter.
+fn common(letter: u8, n: u64) {
+    match letter {
+        b'c' => piece(b"fields follow|ends what is held", n),
+        b'p' => piece(b"this picture only|until the next message or sequence", n),
+        b'g' => piece(
+            b"content unknown, or coded as 4 to 7|enough content to interpolate between samples|\
+            picture content, its quality changing towards the neighbour's|picture content of like quality",
+            n,
+        ),
+        _ => piece(
+            b"no transform|mirrored horizontally|rotated by 180 degrees anticlockwise|\
+            rotated by 180 degrees anticlockwise, then mirrored horizontally|\
+            rotated by 90 degrees anticlockwise, then mirrored horizontally|\
+            rotated by 90 degrees anticlockwise|\
+            rotated by 270 degrees anticlockwise, then mirrored horizontally|\
+            rotated by 270 degrees anticlockwise",
+            n,
+        ),
+    }
+}
+
+// What 0, 1 and so on mean, each after a bar, the last for all that are larger; or '@' and the letter of a shared meaning.
+fn meaning(s: &[u8], n: u64) {
+    if s.len() < 3 {
+        return;
+    }
+    text(b": ");
+    if s[1] == b'@' {
+        common(s[2], n);
+    } else {
+        let after = 1;
+        piece(&s[after..], n);
+    }
+}
+
+fn said(style: Style, s: &[u8], n: u64) {
+    if let Style::Explained = style {
+        meaning(s, n);
+    }
+}
+
+// A field by its line: how deep it lies, a space, the name, and after a bar what its values mean.
+pub fn field(style: Style, place: Place, n: u64, line: &[u8]) {
+    let start = 2;
+    let bar = find(line, 0, b'|');
+    if bar < start {
+        return;
+    }
+    if shown(style, line[0], place) {
+        apart(style);
+        name(&line[start..bar], place.index);
+        text(b"=");
+        number(n);
+        said(style, &line[bar..], n);
+    }
+}
+
+// The numbers of a row from a place on, one for each line.
+pub fn fields(style: Style, row: &[u64], place: Place, lines: &[u8]) {
+    let mut i = place.from;
+    let mut p = 0;
+    while p < lines.len() {
+        let end = find(lines, p, b'\n');
+        if row.len() <= i {
+            return;
+        }
+        field(style, place, row[i], &lines[p..end]);
+        if end == lines.len() {
+            return;
+        }
+        p = end + 1;
+        i += 1;
+    }
+}

@@ -1,0 +1,96 @@
+// The names of kinds 4, 45, 47, 150 and 165, and what their values mean. A line begins with how deep its field lies (`field::shown`).
+use crate::field::Place;
+use crate::field::at;
+use crate::field::fields;
+use crate::style::Style;
+
+// The fields after the extension's length, and which of them the message carries.
+pub fn carried(outer: bool, inner: bool) -> Place {
+    Place {
+        from: 1,
+        index: 0,
+        outer,
+        inner,
+    }
+}
+
+// The grid stands there unless the frames are quincunx sampled or alternate in time.
+fn placed(quincunx: u64, arrangement: u64) -> bool {
+    quincunx == 0 && arrangement != 5
+}
+
+pub fn frame_packing(style: Style, row: &[u64]) {
+    fields(
+        style,
+        row,
+        carried(at(row, 2) == 0, placed(at(row, 4), at(row, 3))),
+        b"0 fp_arrangement_id\n\
+        0 fp_arrangement_cancel_flag|@c\n\
+        1 fp_arrangement_type|reserved|reserved|reserved|side by side|top and bottom|the two frames alternate in time|reserved\n\
+        1 fp_quincunx_sampling_flag|not quincunx sampled|quincunx sampled\n\
+        1 fp_content_interpretation_type|which view is which is not said|frame 0 is the left view|frame 0 is the right view|reserved\n\
+        1 fp_spatial_flipping_flag|no frame is flipped|one frame is flipped: sideways if side by side, upside down if top and bottom\n\
+        1 fp_frame0_flipped_flag|if one is flipped, it is frame 1|if one is flipped, it is frame 0\n\
+        1 fp_field_views_flag|as it must be|reserved, to be ignored\n\
+        1 fp_current_frame_is_frame0_flag|if they alternate, this picture is frame 1|if they alternate, this picture is frame 0\n\
+        1 fp_frame0_self_contained_flag|frame 0 may be predicted from frame 1|frame 0 is never predicted from frame 1\n\
+        1 fp_frame1_self_contained_flag|frame 1 may be predicted from frame 0|frame 1 is never predicted from frame 0\n\
+        2 fp_frame0_grid_position_x|sixteenths of a sample\n\
+        2 fp_frame0_grid_position_y|sixteenths of a sample; x and y both 0: the default place; both 15: unknown\n\
+        2 fp_frame1_grid_position_x|sixteenths of a sample\n\
+        2 fp_frame1_grid_position_y|sixteenths of a sample; x and y both 0: the default place; both 15: unknown\n\
+        1 fp_arrangement_persistence_flag|@p\n\
+        0 fp_upsampled_aspect_ratio_flag|the sample aspect ratio is that before upconversion|the sample aspect ratio is that after upconversion",
+    );
+}
+
+pub fn orientation(style: Style, row: &[u64]) {
+    fields(
+        style,
+        row,
+        carried(at(row, 1) == 0, true),
+        b"0 display_orientation_cancel_flag|@c\n\
+        1 display_orientation_persistence_flag|@p\n\
+        1 display_orientation_transform_type|@t",
+    );
+}
+
+pub fn equirectangular(style: Style, row: &[u64]) {
+    fields(
+        style,
+        row,
+        carried(at(row, 1) == 0, at(row, 3) == 1),
+        b"0 erp_cancel_flag|@c\n\
+        1 erp_persistence_flag|@p\n\
+        1 erp_guard_band_flag|no guard bands|guard bands\n\
+        2 erp_guard_band_type|@g\n\
+        2 erp_left_guard_band_width|luma samples\n\
+        2 erp_right_guard_band_width|luma samples",
+    );
+}
+
+pub fn alpha(style: Style, row: &[u64]) {
+    fields(
+        style,
+        row,
+        carried(at(row, 1) == 0, at(row, 7) == 1),
+        b"0 alpha_channel_cancel_flag|fields follow|ends what was said\n\
+        1 alpha_channel_use_idc|blending multiplies the picture by alpha|the picture is multiplied already|unspecified|reserved\n\
+        1 alpha_channel_bit_depth_minus8|the bit depth of a sample, less 8\n\
+        1 alpha_transparent_value|the sample value that is transparent\n\
+        1 alpha_opaque_value|the sample value that is opaque\n\
+        1 alpha_channel_incr_flag|samples are taken as they are|samples above the lower of the two values are increased by one\n\
+        1 alpha_channel_clip_flag|samples are not clipped|samples are clipped\n\
+        2 alpha_channel_clip_type_flag|to the nearer of the two values|to the range between the two values",
+    );
+}
+
+pub fn registered(style: Style, row: &[u64]) {
+    fields(
+        style,
+        row,
+        carried(at(row, 1) == 255, true),
+        b"0 itu_t_t35_country_code\n\
+        1 itu_t_t35_country_code_extension_byte",
+    );
+}

@@ -1,0 +1,83 @@
+// The number that a caller gets: in a word or two, in a sentence, and where to look.
+use crate::scan::piece;
+use crate::text::number;
+use crate::text::text;
+
+// The place of a number's text below: 0 to 10 are their own, and 20 comes after them.
+fn place(n: u32) -> u64 {
+    if n == 20 { 11 } else { n as u64 }
+}
+
+// Of a read or a feed.
+pub fn read(n: u32) {
+    number(n as u64);
+    text(b" ");
+    piece(
+        b"taken|unknown kind|bad size|payload too short|too many zeros|rule broken|too many regions|bad tail|no such open slot|\
+        no region table|too few rows lent|set aside",
+        place(n),
+    );
+}
+
+// Of any other call.
+pub fn called(n: u32) {
+    if n == 0 {
+        text(b"0 done");
+    } else {
+        read(n);
+    }
+}
+
+pub fn sentence(n: u32) {
+    piece(
+        b"Taken: the payload is a message within the rules.|\
+        Refused: the kind is none of the nine that are read.|\
+        Refused: the stated size exceeds 8192 or the bytes that are there.|\
+        Refused: the payload ends before its message does.|\
+        Refused: a ue(v) number starts with 32 zero bits.|\
+        Refused: a field has a value that the rules do not allow.|\
+        Refused: kind 155 with more than 16 regions.|\
+        Refused: what follows the message is no permitted tail.|\
+        Refused: the slot number is 8 or more, or the slot is closed.|\
+        Refused: no region table can be made of what the slot holds.|\
+        Refused: fewer than nine numbers were lent for each row.|\
+        Set aside: kind 45 with a reserved id, type or interpretation. It is read, and no slot changes.",
+        place(n),
+    );
+}
+
+// Which rule 5 can mean, by the kind.
+fn rule(kind: u64) {
+    match kind {
+        154 => text(b"yaw and roll go from -180 to below 180 degrees, pitch from -90 to 90."),
+        155 => text(
+            b"regions and picture sizes are at least 1; a guard band type 0 needs rwp_guard_band_not_used_for_pred_flag=1.",
+        ),
+        _ => text(
+            b"depth_representation_type is at most 15, depth_nonlinear_representation_num_minus1 at most 62, a listed number at most 65535.",
+        ),
+    }
+}
+
+// Where to look when a payload of the kind gets a number.
+pub fn hint(n: u32, kind: u64) {
+    if n == 5 {
+        rule(kind);
+        return;
+    }
+    piece(
+        b"nothing.|\
+        the kind number (payloadType): 4, 5, 45, 47, 150, 154, 155, 165 or 177.|\
+        whether the size counts a header too, or the capture lost bytes.|\
+        whether the kind is right, and whether the capture lost bytes at the end.|\
+        whether the kind is right: so many zeros are padding and no message.|\
+        the rules.|\
+        the second byte, rwp_num_packed_regions.|\
+        the last byte: it needs a one bit after the message; zero bytes at the end are not permitted.|\
+        the slot: open it first.|\
+        what was fed to the slot.|\
+        how many numbers are lent.|\
+        fp_arrangement_id (256 to 511 and 2147483648 on are reserved), the type (3, 4 or 5) and the interpretation (0 to 2).",
+        place(n),
+    );
+}

@@ -1,0 +1,44 @@
+// What follows the head of kinds 4 and 5, and the identifier of kind 5.
+use crate::field::apart;
+use crate::field::at;
+use crate::names;
+use crate::style::Style;
+use crate::text::bytes;
+use crate::text::printable;
+use crate::text::text;
+
+// In hex and, where it is explained, as text.
+fn rest(style: Style, name: &[u8], part: &[u8]) {
+    apart(style);
+    text(name);
+    bytes(part);
+    if let Style::Explained = style {
+        text(b": as text '");
+        printable(part);
+        text(b"'");
+    }
+}
+
+pub fn registered(style: Style, row: &[u64], part: &[u8]) {
+    names::registered(style, row);
+    rest(style, b"itu_t_t35_payload_byte=", part);
+}
+
+// The identifier is sixteen numbers of the row, from 1 on.
+fn identifier(row: &[u64]) -> [u8; 16] {
+    let mut r = [0u8; 16];
+    let mut i = 0;
+    while i < 16 {
+        r[i] = (at(row, i + 1) % 256) as u8;
+        i += 1;
+    }
+    r
+}
+
+pub fn unregistered(style: Style, row: &[u64], part: &[u8]) {
+    apart(style);
+    text(b"uuid_iso_iec_11578=");
+    let uuid = identifier(row);
+    bytes(&uuid);
+    rest(style, b"user_data_payload_byte=", part);
+}

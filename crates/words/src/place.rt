@@ -1,0 +1,56 @@
+// Places in a text.
+ghost use mathlib.Core.Path.{_≡_};
+ghost use Prim.Native.Nat.{ℕ, _+_, _≤_, _<_};
+ghost use lib.ListN.{length, getD};
+ghost use Rattle.bytes.specs.Bytes.{indexOf, slice};
+
+// Where b first stands, from a place on; the text's length where it does not.
+pub fn find(s: &[u8], from: usize, b: u8) -> usize
+    requires { ⌜ from ≤ length (now s) ⌝ }
+    ensures { λ r. ⌜ r ≡ from + indexOf b (slice from (length (now (s .entry))) (now (s .entry))) ⌝ }
+    ensures { λ r. ⌜ (from ≤ r) × (r ≤ length (now (s .entry))) ⌝ }
+{
+    bytes::scan::find(s, from, s.len(), b)
+}
+
+// Where something else than b first stands.
+pub fn skip(s: &[u8], from: usize, b: u8) -> usize
+    requires { ⌜ from ≤ length (now s) ⌝ }
+    ensures within { λ r. ⌜ (from ≤ r) × (r ≤ length (now (s .entry))) ⌝ }
+    ensures before { λ r. ⌜ ((k : ℕ) → k < r → from ≤ k → getD (now (s .entry)) k 0 ≡ b) ⌝ }
+    ensures stopped { λ r. ⌜ (r < length (now (s .entry)) → getD (now (s .entry)) r 0 ≡ b → ⊥) ⌝ }
+{
+    let mut i = from;
+    while i < s.len() {
+        if s[i] != b {
+            return i;
+        }
+        i += 1;
+    }
+    i
+}
+
+// The length without the spaces at the end.
+fn trimmed(s: &[u8], to: usize) -> usize
+    requires { ⌜ to ≤ length (now s) ⌝ }
+    ensures { λ r. ⌜ r ≤ to ⌝ }
+{
+    let mut i = to;
+    while 0 < i {
+        if s[i - 1] != b' ' {
+            return i;
+        }
+        i -= 1;
+    }
+    i
+}
+
+// A line without its comment and the spaces around it.
+pub fn content(s: &[u8]) -> &[u8] {
+    let from = skip(s, 0, b' ');
+    let to = trimmed(s, find(s, from, b'#'));
+    if to < from {
+        return &s[from..from];
+    }
+    &s[from..to]
+}
