@@ -34,7 +34,7 @@ fn picture(slots: Slots) -> Slots {
     let answer = pictured.answer;
     text(b"picture: ");
     called(answer.number());
-    show::held::held(pictured.held);
+    show::picture::held(pictured.held);
     text(b"\n");
     pictured.slots
 }
