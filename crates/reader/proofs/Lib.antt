@@ -1,4 +1,5 @@
 pub mod Order
+mod EntryLaws
 pub mod Demand2
 pub mod Local
 pub mod Numbers

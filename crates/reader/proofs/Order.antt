@@ -15,7 +15,7 @@ use Rattle.reader.specs.Reader.{sized, cut, answered, answerTo}
 use Rattle.answers.specs.declared.kind.Kind.{Kind}
 use Rattle.answers.specs.declared.kind.Named.the-variants.{Listed, Unlisted}
 
-too-large : (size : ℕ) (l : Bool) → 8192 < size → (leb size 8192 && l) ≡ false
+pub too-large : (size : ℕ) (l : Bool) → 8192 < size → (leb size 8192 && l) ≡ false
 too-large size l h = rw (lt-leb size 8192 h)
 
 module _ (n size : ℕ) (bytes : List ℕ) where

@@ -1,3 +1,4 @@
+pub mod Entry
 pub mod Reader
 pub mod Payloads
 pub mod User

@@ -9,6 +9,7 @@ ghost use lib.ListN.{length, take};
 ghost use Rattle.bits.specs.Bits.{Payload};
 ghost use Rattle.answers.specs.Listed.{readingOf};
 ghost use Rattle.answers.specs.Answer.{numberOf, answerFor};
+ghost use Rattle.reader.specs.Entry.{entryTo};
 ghost use Rattle.reader.specs.Reader.{answerTo};
 
 // The payload s of a listed kind.
@@ -55,38 +56,50 @@ fn front(bytes: &[u8], n: usize) -> &[u8]
     &bytes[0..n]
 }
 
-// The stated size cuts the lent bytes here, once: nothing below sees more.
-pub fn read(kind: u64, size: u64, bytes: &[u8]) -> Answer
-    ensures { λ r. ⌜ r ≡ answerTo kind size (now (bytes .entry)) ⌝ }
+// What is judged before the payload: the kind, and then the size.
+enum Entry {
+    Unlisted,
+    Oversized(Kind),
+    Payload(Kind),
+}
+
+// `room` is how many bytes are lent.
+fn judged(kind: u64, size: u64, room: usize) -> Entry
+    ensures { λ r. ⌜ r ≡ entryTo kind size room ⌝ }
 {
     let named = Named::by(kind);
     let Named::Listed(k) = named else {
-        return Answer::unknown();
+        return Entry::Unlisted;
     };
     if 8192 < size {
-        return Answer::refused(k, Refusal::size());
+        return Entry::Oversized(k);
     }
-    let n = size as usize;
-    if bytes.len() < n {
-        return Answer::refused(k, Refusal::size());
+    if (room as u64) < size {
+        return Entry::Oversized(k);
     }
-    of_kind(k, front(bytes, n))
+    Entry::Payload(k)
+}
+
+// The stated size cuts the lent bytes here: nothing below sees more.
+pub fn read(kind: u64, size: u64, bytes: &[u8]) -> Answer
+    ensures { λ r. ⌜ r ≡ answerTo kind size (now (bytes .entry)) ⌝ }
+{
+    let entry = judged(kind, size, bytes.len());
+    match entry {
+        Entry::Unlisted => Answer::unknown(),
+        Entry::Oversized(k) => Answer::refused(k, Refusal::size()),
+        Entry::Payload(k) => of_kind(k, front(bytes, size as usize)),
+    }
 }
 
 // The number of the answer, for a caller who wants no more: no record is copied on the way.
 pub fn number(kind: u64, size: u64, bytes: &[u8]) -> u32
     ensures { λ r. ⌜ r ≡ numberOf (answerTo kind size (now (bytes .entry))) ⌝ }
 {
-    let named = Named::by(kind);
-    let Named::Listed(k) = named else {
-        return Refusal::kind().number();
-    };
-    if 8192 < size {
-        return Refusal::size().number();
+    let entry = judged(kind, size, bytes.len());
+    match entry {
+        Entry::Unlisted => Refusal::kind().number(),
+        Entry::Oversized(_) => Refusal::size().number(),
+        Entry::Payload(k) => number_of_kind(k, front(bytes, size as usize)),
     }
-    let n = size as usize;
-    if bytes.len() < n {
-        return Refusal::size().number();
-    }
-    number_of_kind(k, front(bytes, n))
 }

@@ -1,44 +1,45 @@
--- `reader::payload::number` meets its contract, as `read` does.
+-- `reader::payload::number` meets its contract: 1, then 2, then what the payload comes to.
 -- Assumes nothing.
-use mathlib.Core.Path.{_≡_, sym, ap, _∙_}
+use mathlib.Core.Path.{sym, ap, _∙_}
 use native.Mathlib.Omega.{arith}
-use borrow.Author.Needs.{needs}
+use denote.Ref.{now}
 use lib.ListN.{length-take}
 use Rattle.bits.specs.Refusals as refusals
-use Rattle.answers.specs.Listed.{named}
 use Rattle.answers.specs.Answer.{numberOf}
-use Rattle.answers.specs.declared.kind.Named.the-variants.{Listed}
-use Rattle.reader.proofs.Order.{to-unlisted, to-large, to-long, to-payload}
+use Rattle.reader.proofs.EntryLaws.{when-unlisted, when-oversized, when-payload}
 use Rattle.reader.proofs.payload.number.Statement.{statement}
 use Rattle.reader.proofs.payload.number.Tie as tie
 
--- the kind that the number names
-which : (c : tie.After-known-told) → named (c .before .before .before .before .before .args .kind) ≡ Listed (c .before .named .given .0 .0)
-which c = sym (c .before .before .before .by .ensures) ∙ c .before .named .given .1
-
 returns : tie.Need-returns
 returns c =
-    let by = c .before .before .before .before .by in
+    let told = c .before .before in
     c .number .ensures ∙ ap refusals.numberOf (c .before .kind .ensures)
-    ∙ sym (ap numberOf (to-unlisted _ _ _ (sym (by .ensures) ∙ c .before .before .enum-told .given .1)))
+    ∙ sym (ap numberOf (when-unlisted _ _ _ (told .before .before .judged .ensures) (told .enum-told .given .1)))
 
 returns-2 : tie.Need-returns-2
 returns-2 c =
+    let told = c .before .before in
     c .number2 .ensures ∙ ap refusals.numberOf (c .before .size .ensures)
-    ∙ sym (ap numberOf (to-large _ _ _ _ (which (c .before .before .before)) (omega arith)))
+    ∙ sym (ap numberOf (when-oversized _ _ _ (told .before .before .judged .ensures) (told .enum-told2 .given .1)))
+
+front-requires : tie.Need-front-requires
+front-requires c κs =
+    let told = c .before in
+    let args = told .before .before .before .before .args in
+    when-payload (args .kind) (args .size) (now (args .bytes)) (told .before .before .judged .ensures) (told .entry .given .1) .1
+
+number-of-kind-requires : tie.Need-number-of-kind-requires
+number-of-kind-requires c κs =
+    let told = c .before .before in
+    let args = told .before .before .before .before .args in
+    let fits = when-payload (args .kind) (args .size) (now (args .bytes)) (told .before .before .judged .ensures) (told .entry .given .1) .0 in
+    rw (c .front .ensures) (rw (length-take) (omega (arith, fits)))
 
 returns-3 : tie.Need-returns-3
 returns-3 c =
-    c .number3 .ensures ∙ ap refusals.numberOf (c .before .size2 .ensures)
-    ∙ sym (ap numberOf (to-long _ _ _ _ (which (c .before .before .before .before)) (omega arith) (omega arith)))
-
-number-of-kind-requires : tie.Need-number-of-kind-requires
-number-of-kind-requires c κs = rw (c .front .ensures) (rw (length-take) (omega arith))
-
-returns-4 : tie.Need-returns-4
-returns-4 c =
-    let k = c .before .before .before .before in
-    rw (c .number-of-kind .ensures, c .before .front .ensures) (sym (ap numberOf (to-payload _ _ _ _ (which k) (omega arith) (omega arith))))
+    let told = c .before .before .before in
+    rw (c .number-of-kind .ensures, c .before .front .ensures)
+    (sym (ap numberOf (when-payload _ _ _ (told .before .before .judged .ensures) (told .entry .given .1) .2)))
 
 pub number-spec : {M : Type 1} → statement M
 number-spec =
@@ -46,16 +47,14 @@ number-spec =
     (tie.spec
     (λ c κs. tt)
     (λ c. c .match .keys1)
+    (λ c κs. tt)
+    (λ c κs. tt)
     (λ c. c .match .keys2)
     (λ c κs. tt)
     (λ c κs. tt)
-    returns
-    (λ c κs. tt)
-    (λ c κs. tt)
-    returns-2
-    (λ c κs. tt)
-    (λ c κs. tt)
-    returns-3
-    (λ c κs. search needs)
+    (λ c. c .match .keys3)
+    front-requires
     number-of-kind-requires
-    returns-4)
+    returns
+    returns-2
+    returns-3)

@@ -1,0 +1,21 @@
+-- What is judged before a payload: its kind, and then its size against the limit and the lent bytes, of which there are `room`.
+use Prim.Native.Nat.{ℕ}
+use mathlib.Core.Bool.{Bool, true, false, _&&_}
+use lib.Dec.{leb}
+use Rattle.answers.specs.Listed.{named}
+use Rattle.answers.specs.declared.kind.Kind.{Kind}
+use Rattle.answers.specs.declared.kind.Named.{Named}
+use Rattle.answers.specs.declared.kind.Named.the-variants as names
+use Rattle.reader.specs.declared.payload.Entry.{Entry}
+use Rattle.reader.specs.declared.payload.Entry.the-variants.{Unlisted, Oversized, Payload}
+
+abbrev pub bySize : Kind → Bool → Entry
+bySize k true = Payload k
+bySize k false = Oversized k
+
+abbrev pub byName : Named → ℕ → ℕ → Entry
+byName names.Unlisted size room = Unlisted
+byName (names.Listed k) size room = bySize k (leb size 8192 && leb size room)
+
+unfoldable pub entryTo : ℕ → ℕ → ℕ → Entry
+entryTo n size room = byName (named n) size room
