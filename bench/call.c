@@ -11,9 +11,6 @@ uint32_t make_call(const struct side *side, void *slots, const struct given *giv
     case READ:
         number = side->read(given->kind, size, bytes, size);
         break;
-    case RECORD:
-        number = side->record(given->kind, size, bytes, size, answered->numbers, MOST_NUMBERS);
-        break;
     case ROW:
         number = side->row(given->kind, size, bytes, size, answered->numbers, MOST_NUMBERS);
         break;

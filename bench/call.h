@@ -5,7 +5,7 @@
 #include "payload.h"
 #include "sides.h"
 
-enum call { READ, RECORD, ROW, START, OPEN, CLOSE, SEQUENCE, FEED, PICTURE, TABLE };
+enum call { READ, ROW, START, OPEN, CLOSE, SEQUENCE, FEED, PICTURE, TABLE };
 
 /* What a call is given; none is given all. */
 struct given {

@@ -73,7 +73,6 @@ static uint32_t player_table(void *slots, uint64_t slot, uint64_t *rows, size_t 
 
 const struct side library = {
     .read = bruskelde_read,
-    .record = bruskelde_fields,
     .row = bruskelde_fields,
     .make = player_make,
     .start = player_start,

@@ -81,8 +81,8 @@ static void count(const struct measured *one)
     printf("%s\t%s\t%" PRIu32 "\n", one->group, one->name, one->number);
 }
 
-/* Each payload is read for its number, and then by the call `whole`. */
-static void for_each_payload(action *act, enum call whole)
+/* Each payload is read for its number, and then for its row. */
+static void for_each_payload(action *act)
 {
     static struct measured one;
     for (size_t i = 0; i < payload_case_count; i++) {
@@ -94,7 +94,7 @@ static void for_each_payload(action *act, enum call whole)
         write_payload(&one.given.payload, from->payload);
         one.given.call = READ;
         act(&one);
-        one.given.call = whole;
+        one.given.call = ROW;
         act(&one);
     }
 }
@@ -120,12 +120,12 @@ int main(int argc, char **argv)
     for (int i = 0; i < 2; i++)
         both[i].slots = both[i].side->make();
     if (argc == 2 && strcmp(argv[1], "check") == 0) {
-        for_each_payload(check, ROW);
+        for_each_payload(check);
         for_each_slot_call(check);
         return EXIT_SUCCESS;
     }
     if (argc == 2 && strcmp(argv[1], "count") == 0) {
-        for_each_payload(count, RECORD);
+        for_each_payload(count);
         for_each_slot_call(count);
         return EXIT_SUCCESS;
     }

@@ -15,7 +15,6 @@ type Change = extern "C" fn(&mut Slots, u64) -> u32;
 #[repr(C)]
 pub struct Side {
     read: Read,
-    record: ReadTo,
     row: ReadTo,
     make: extern "C" fn() -> Box<Slots>,
     start: extern "C" fn(&mut Slots) -> u32,
@@ -30,7 +29,6 @@ pub struct Side {
 #[export_name = "reader"]
 pub static READER: Side = Side {
     read,
-    record,
     row,
     make,
     start,
@@ -47,20 +45,6 @@ unsafe extern "C" fn read(kind: u64, size: u64, bytes: *const u8, length: usize)
     independent::read(kind, size, bytes).number
 }
 
-/// The reader's own form of a record is in its answer, which is made whole though only the number is looked at.
-unsafe extern "C" fn record(
-    kind: u64,
-    size: u64,
-    bytes: *const u8,
-    length: usize,
-    _row: *mut u64,
-    _row_length: usize,
-) -> u32 {
-    let bytes = unsafe { slice::from_raw_parts(bytes, length) };
-    let answer = independent::read(kind, size, bytes);
-    black_box(&answer).number
-}
-
 unsafe extern "C" fn row(
     kind: u64,
     size: u64,
@@ -72,8 +56,7 @@ unsafe extern "C" fn row(
     let bytes = unsafe { slice::from_raw_parts(bytes, length) };
     let lent = unsafe { slice::from_raw_parts_mut(row, row_length) };
     let answer = independent::read(kind, size, bytes);
-    let row = independent::row(&answer);
-    lent[..row.len()].copy_from_slice(&row);
+    independent::write_row(&answer, lent);
     answer.number
 }
 

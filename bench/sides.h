@@ -8,9 +8,7 @@
 /* Each call answers its number. `slots` is what `make` gave: eight slots of the side's own. */
 struct side {
     uint32_t (*read)(uint64_t kind, uint64_t size, const uint8_t *bytes, size_t length);
-    /* also the whole record, in the side's own form */
-    uint32_t (*record)(uint64_t kind, uint64_t size, const uint8_t *bytes, size_t length, uint64_t *row, size_t row_length);
-    /* also the record as a row of numbers, which is for comparing the sides */
+    /* also the whole record, as a row of numbers */
     uint32_t (*row)(uint64_t kind, uint64_t size, const uint8_t *bytes, size_t length, uint64_t *row, size_t row_length);
     void *(*make)(void);
     uint32_t (*start)(void *slots);

@@ -12,6 +12,9 @@ use std::io::{self, BufReader, Read, StdinLock, Write};
 /// The answer of bruskelde_fields where the row is too short.
 const ROOM: u32 = 10;
 
+/// The longest row, that of kind 155.
+const MOST_NUMBERS: usize = 313;
+
 struct Payload {
     kind: u64,
     size: u64,
@@ -57,10 +60,11 @@ impl Server {
         let payload = self.take_payload()?;
         let mut lent = self.take_rows()?;
         let answer = independent::read(payload.kind, payload.size, &payload.bytes);
-        let row = independent::row(&answer);
-        let number = match lent.get_mut(..row.len()) {
+        let mut row = [0; MOST_NUMBERS];
+        let length = independent::write_row(&answer, &mut row);
+        let number = match lent.get_mut(..length) {
             Some(place) => {
-                place.copy_from_slice(&row);
+                place.copy_from_slice(&row[..length]);
                 answer.number
             }
             None => ROOM,

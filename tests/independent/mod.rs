@@ -27,7 +27,7 @@ pub use frame_packing::FramePacking;
 pub use orientation::Orientation;
 pub use region_wise::{Region, RegionWise, MOST_REGIONS};
 pub use rotation::{Degrees, Rotation};
-pub use row::row;
+pub use row::write_row;
 pub use slots::{Held, HeldRecords, Pictured, Slot, Slots};
 pub use table::Tabled;
 pub use user_data::{Part, Registered, Unregistered};

@@ -2,12 +2,32 @@
 
 use super::*;
 
-/// The extension count and then the record's fields; nothing where the answer has no record.
-pub fn row(answer: &Answer) -> Vec<u64> {
+/// Numbers written one after the other into a lent slice.
+struct Row<'a> {
+    numbers: &'a mut [u64],
+    length: usize,
+}
+
+impl Row<'_> {
+    fn push(&mut self, number: u64) {
+        self.numbers[self.length] = number;
+        self.length += 1;
+    }
+
+    fn extend<const N: usize>(&mut self, numbers: [u64; N]) {
+        self.numbers[self.length..][..N].copy_from_slice(&numbers);
+        self.length += N;
+    }
+}
+
+/// The extension count and then the record's fields, over the front of `numbers`; nothing where the answer has no record. Answers how
+/// many numbers there are.
+pub fn write_row(answer: &Answer, numbers: &mut [u64]) -> usize {
     let Some(record) = &answer.record else {
-        return Vec::new();
+        return 0;
     };
-    let mut row = vec![answer.extension.into()];
+    let mut row = Row { numbers, length: 0 };
+    row.push(answer.extension.into());
     match record {
         Record::Registered(message) => registered(&mut row, message),
         Record::Unregistered(message) => row.extend(message.identifier.map(u64::from)),
@@ -19,14 +39,14 @@ pub fn row(answer: &Answer) -> Vec<u64> {
         Record::Alpha(message) => alpha(&mut row, message),
         Record::Depth(message) => depth(&mut row, message),
     }
-    row
+    row.length
 }
 
-fn registered(row: &mut Vec<u64>, message: &Registered) {
+fn registered(row: &mut Row, message: &Registered) {
     row.extend([message.country_code, message.extension_byte].map(u64::from));
 }
 
-fn frame_packing(row: &mut Vec<u64>, message: &FramePacking) {
+fn frame_packing(row: &mut Row, message: &FramePacking) {
     row.push(message.id.into());
     row.extend(
         [
@@ -51,11 +71,11 @@ fn frame_packing(row: &mut Vec<u64>, message: &FramePacking) {
     );
 }
 
-fn orientation(row: &mut Vec<u64>, message: &Orientation) {
+fn orientation(row: &mut Row, message: &Orientation) {
     row.extend([message.cancel, message.persistence, message.transform].map(u64::from));
 }
 
-fn equirectangular(row: &mut Vec<u64>, message: &Equirectangular) {
+fn equirectangular(row: &mut Row, message: &Equirectangular) {
     row.extend(
         [
             message.cancel,
@@ -69,14 +89,14 @@ fn equirectangular(row: &mut Vec<u64>, message: &Equirectangular) {
     );
 }
 
-fn rotation(row: &mut Vec<u64>, message: &Rotation) {
+fn rotation(row: &mut Row, message: &Rotation) {
     row.extend([message.cancel, message.persistence].map(u64::from));
     row.extend([message.yaw, message.pitch, message.roll].map(|angle| u64::from(angle as u32)));
     let degrees = &message.degrees;
     row.extend([degrees.yaw, degrees.pitch, degrees.roll].map(f64::to_bits));
 }
 
-fn region_wise(row: &mut Vec<u64>, message: &RegionWise) {
+fn region_wise(row: &mut Row, message: &RegionWise) {
     row.extend(
         [
             message.cancel,
@@ -93,7 +113,7 @@ fn region_wise(row: &mut Vec<u64>, message: &RegionWise) {
     }
 }
 
-fn region(row: &mut Vec<u64>, region: &Region) {
+fn region(row: &mut Row, region: &Region) {
     row.extend([region.transform, region.guarded].map(u64::from));
     row.extend(
         [
@@ -126,13 +146,13 @@ fn region(row: &mut Vec<u64>, region: &Region) {
     row.extend(region.guard_types.map(u64::from));
 }
 
-fn alpha(row: &mut Vec<u64>, message: &Alpha) {
+fn alpha(row: &mut Row, message: &Alpha) {
     row.extend([message.cancel, message.use_idc, message.bit_depth_minus8].map(u64::from));
     row.extend([message.transparent, message.opaque].map(u64::from));
     row.extend([message.increment, message.clip, message.clip_type].map(u64::from));
 }
 
-fn depth(row: &mut Vec<u64>, message: &Depth) {
+fn depth(row: &mut Row, message: &Depth) {
     row.extend(
         [
             message.z_near_flag,
@@ -156,7 +176,7 @@ fn depth(row: &mut Vec<u64>, message: &Depth) {
     row.extend(message.list.map(u64::from));
 }
 
-fn element(row: &mut Vec<u64>, element: &Element) {
+fn element(row: &mut Row, element: &Element) {
     row.extend(
         [
             element.sign,

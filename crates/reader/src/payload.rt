@@ -86,9 +86,9 @@ pub fn read(kind: u64, size: u64, bytes: &[u8]) -> Answer
 {
     let entry = judged(kind, size, bytes.len());
     match entry {
-        Entry::Unlisted => Answer::unknown(),
-        Entry::Oversized(k) => Answer::refused(k, Refusal::size()),
-        Entry::Payload(k) => of_kind(k, front(bytes, size as usize)),
+        Entry::Unlisted => return Answer::unknown(),
+        Entry::Oversized(k) => return Answer::refused(k, Refusal::size()),
+        Entry::Payload(k) => return of_kind(k, front(bytes, size as usize)),
     }
 }
 

@@ -43,12 +43,12 @@ read-spec =
     (λ c κs. tt)
     (λ c. c .match .keys1)
     (λ c κs. tt)
+    returns
     (λ c. c .match .keys2)
     (λ c κs. tt)
     (λ c κs. tt)
+    returns-2
     (λ c. c .match .keys3)
     front-requires
     of-kind-requires
-    returns
-    returns-2
     returns-3)
