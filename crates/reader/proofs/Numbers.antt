@@ -111,9 +111,6 @@ call n size bytes = go (named n) refl (below 8192 size) (below (length bytes) si
     go (Listed k) e (inr b) (inl c) = oversized k e (inr c) (ap numberOf (to-long n size bytes k e b c))
     go (Listed k) e (inr b) (inr c) = payload k e b c (ap numberOf (to-payload n size bytes k e b c) ∙ number-for k (readingOf k (take size bytes)))
 
-not-listed : {X : Type 0} {x : Named} {k : Kind} → x ≡ Unlisted → x ≡ Listed k → X
-not-listed e f = let z : _≡_ {A = ℕ} 0 1 = cc in absurd (omega arith)
-
 module _ (n size : ℕ) (bytes : List ℕ) where
   -- 1 exactly where the kind is none of the nine
   pub when-1 : (numberOf (answerTo n size bytes) ≡ 1) ↔ (named n ≡ Unlisted)

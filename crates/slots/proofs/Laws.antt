@@ -8,7 +8,7 @@ use mathlib.Core.Path.{_≡_, refl, sym, ap, _∙_}
 use mathlib.Core.Logic.{_≢_, _↔_, _⊎_, inr, ⊎-elim}
 use lib.Dec.{ltb}
 use lib.ListN.{length-set, getD, replicate, List·getD-eq-default}
-use lib.Seq.{getD-set-same, getD-set-other, ext-getD}
+use lib.Seq.{getD-set-same, getD-set-other}
 use borrow.Author.Tests.{lt-ltb, le-ltb, ltb-false}
 use Rattle.bits.specs.Refusals.{bySlot}
 use Rattle.bits.proofs.BitLaws.{below}
@@ -83,13 +83,6 @@ slot-with-other s n m x h = getD-set-other (s .slots) n m x closedSlot h
 pub with-eight : (s : Slots) (n : ℕ) (x : Slot) → Eight s → Eight (withSlot s n x)
 unfolding withSlot
 with-eight s n x e = length-set (s .slots) n x ∙ e
-
--- slots are known by what is read of them
-pub slots-same : (s t : Slots) → Eight s → Eight t → ((n : ℕ) → slotAt s n ≡ slotAt t n) → s ≡ t
-unfolding slotAt
-slots-same s t d e h =
-    let l : s .slots ≡ t .slots = ext-getD closedSlot (s .slots) (t .slots) (d ∙ sym e) (λ i b. h i) in
-    ap (λ xs. record { slots = xs }) l
 
 pub start-eight : Eight start
 unfolding start
