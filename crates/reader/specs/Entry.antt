@@ -9,13 +9,17 @@ use Rattle.answers.specs.declared.kind.Named.the-variants as names
 use Rattle.reader.specs.declared.payload.Entry.{Entry}
 use Rattle.reader.specs.declared.payload.Entry.the-variants.{Unlisted, Oversized, Payload}
 
+-- the stated size is within the limit and the lent bytes
+abbrev pub fits : ℕ → ℕ → Bool
+fits size room = leb size 8192 && leb size room
+
 abbrev pub bySize : Kind → Bool → Entry
 bySize k true = Payload k
 bySize k false = Oversized k
 
 abbrev pub byName : Named → ℕ → ℕ → Entry
 byName names.Unlisted size room = Unlisted
-byName (names.Listed k) size room = bySize k (leb size 8192 && leb size room)
+byName (names.Listed k) size room = bySize k (fits size room)
 
 unfoldable pub entryTo : ℕ → ℕ → ℕ → Entry
 entryTo n size room = byName (named n) size room

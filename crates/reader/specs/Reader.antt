@@ -1,8 +1,7 @@
 -- The reader, for any kind, size and bytes: 1, then 2, then what the payload's bits come to.
 use Prim.Native.Nat.{ℕ}
-use mathlib.Core.Bool.{Bool, true, false, _&&_}
+use mathlib.Core.Bool.{Bool, true, false}
 use mathlib.Core.List.{List}
-use lib.Dec.{leb}
 use lib.ListN.{length, take}
 use Rattle.bits.specs.Refusals.{bySize}
 use Rattle.format.specs.Whole.{Reading, refused}
@@ -10,12 +9,12 @@ use Rattle.answers.specs.Listed.{Record, readingOf, named}
 use Rattle.answers.specs.declared.kind.Kind.{Kind}
 use Rattle.answers.specs.declared.kind.Named.{Named}
 use Rattle.answers.specs.declared.kind.Named.the-variants.{Listed, Unlisted}
+use Rattle.reader.specs.Entry.{fits}
 use Rattle.answers.specs.Answer.{answerFor, unknown}
 use Rattle.answers.specs.declared.Answer.{Answer}
 
--- the stated size is within the limit and the lent bytes
 abbrev pub sized : ℕ → List ℕ → Bool
-sized size bytes = leb size 8192 && leb size (length bytes)
+sized size bytes = fits size (length bytes)
 
 -- the stated size cuts the lent bytes
 abbrev pub cut : (k : Kind) → Bool → ℕ → List ℕ → Reading (Record k)

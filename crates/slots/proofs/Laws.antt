@@ -4,7 +4,7 @@
 use Prim.Native.Nat.{ℕ, zero, suc, _≤_, _<_}
 use native.Mathlib.Omega.{arith}
 use mathlib.Core.Bool.{Bool, true, false}
-use mathlib.Core.Path.{_≡_, refl, sym, ap, _∙_}
+use mathlib.Core.Path.{_≡_, refl, sym, _∙_}
 use mathlib.Core.Logic.{_≢_, _↔_, _⊎_, inr, ⊎-elim}
 use lib.Dec.{ltb}
 use lib.ListN.{length-set, getD, replicate, List·getD-eq-default}
