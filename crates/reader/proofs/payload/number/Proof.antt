@@ -26,7 +26,8 @@ front-requires : tie.Need-front-requires
 front-requires c κs =
     let told = c .before in
     let args = told .before .before .before .before .args in
-    when-payload (args .kind) (args .size) (now (args .bytes)) (told .before .before .judged .ensures) (told .entry .given .1) .1
+    let fits = when-payload (args .kind) (args .size) (now (args .bytes)) (told .before .before .judged .ensures) (told .entry .given .1) .1 in
+    omega (arith, fits)
 
 number-of-kind-requires : tie.Need-number-of-kind-requires
 number-of-kind-requires c κs =

@@ -22,7 +22,8 @@ front-requires : tie.Need-front-requires
 front-requires c κs =
     let told = c .before in
     let args = told .before .before .before .before .args in
-    when-payload (args .kind) (args .size) (now (args .bytes)) (told .before .before .judged .ensures) (told .entry2 .given .1) .1
+    let fits = when-payload (args .kind) (args .size) (now (args .bytes)) (told .before .before .judged .ensures) (told .entry2 .given .1) .1 in
+    omega (arith, fits)
 
 of-kind-requires : tie.Need-of-kind-requires
 of-kind-requires c κs =
