@@ -4,8 +4,8 @@ use mathlib.Core.Path.{sym, _∙_}
 use Rattle.bits.proofs.Determined.{Determines}
 use Rattle.answers.proofs.kind.Named.by.Kinds as named-kinds
 use Rattle.answers.proofs.kind.Named.by.Reads as named-reads
-use Rattle.answers.proofs.Answer.number.Kinds as number-kinds
-use Rattle.answers.proofs.Answer.number.Reads as number-reads
+use Rattle.answers.proofs.Outcome.number.Kinds as number-kinds
+use Rattle.answers.proofs.Outcome.number.Reads as number-reads
 use Rattle.answers.proofs.Answer.plain.Kinds as plain-kinds
 use Rattle.answers.proofs.Answer.plain.Reads as plain-reads
 use Rattle.answers.proofs.Answer.refused.Kinds as refused-kinds

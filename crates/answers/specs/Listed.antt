@@ -7,7 +7,7 @@ use Rattle.bits.specs.Bits.{bitsOf}
 use Rattle.format.specs.Whole.{Form, Reading, whole}
 use Rattle.frame_packing.specs.declared.FramePacking.{FramePacking}
 use Rattle.frame_packing.specs.FramePacking as frame-packing
-use Rattle.frame_packing.specs.SetAside.{setAside}
+use Rattle.aside.specs.SetAside.{setAside}
 use Rattle.orientation.specs.declared.Orientation.{Orientation}
 use Rattle.orientation.specs.Orientation as orientations
 use Rattle.equirectangular.specs.declared.Equirectangular.{Equirectangular}

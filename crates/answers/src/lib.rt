@@ -16,12 +16,25 @@ use user_data::unregistered::Unregistered;
 ghost use mathlib.Core.Path.{_≡_};
 ghost use Rattle.format.specs.Whole.{ended};
 ghost use Rattle.answers.specs.Listed.{never};
-ghost use Rattle.answers.specs.Answer.{numberOf, plain, made, answerFor, finished, refusedAs, zeroMessage, unknown};
+ghost use Rattle.answers.specs.Answer.{outcomeNumber, plain, made, answerFor, finished, refusedAs, zeroMessage, unknown};
 
 pub enum Outcome {
     Taken,
     SetAside,
     Refused(Refusal),
+}
+
+impl Outcome {
+    // The number that a caller gets.
+    pub fn number(self) -> u32
+        ensures { λ n. ⌜ n ≡ outcomeNumber self ⌝ }
+    {
+        match self {
+            Outcome::Taken => 0,
+            Outcome::SetAside => 20,
+            Outcome::Refused(why) => why.number(),
+        }
+    }
 }
 
 // A message by its kind. A record that holds an array stands beside it, in the answer.
@@ -69,17 +82,6 @@ pub struct Answer {
 }
 
 impl Answer {
-    pub fn number(self) -> u32
-        ensures { λ n. ⌜ n ≡ numberOf self ⌝ }
-    {
-        let outcome = self.outcome;
-        match outcome {
-            Outcome::Taken => 0,
-            Outcome::SetAside => 20,
-            Outcome::Refused(why) => why.number(),
-        }
-    }
-
     // With zeros beside the message.
     pub fn plain(outcome: Outcome, message: Message, extension: u32) -> Answer
         ensures { λ r. ⌜ r ≡ plain outcome message extension ⌝ }

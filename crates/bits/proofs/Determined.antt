@@ -99,6 +99,9 @@ had : (r : Read) → made Value Refused (answer r) ≡ r
 had (Value v c) = refl
 had (Refused r) = refl
 
+pub read-told : (r t : Read) → answer r ≡ answer t → r ≡ t
+read-told = told answer Value Refused had
+
 byte-had : (r : ByteRead) → made byte.Value byte.Refused (byteAnswer r) ≡ r
 byte-had (byte.Value v c) = refl
 byte-had (byte.Refused r) = refl
@@ -133,7 +136,7 @@ refusal-told = told-by numberOf (λ n. getD refusals (n - 1) Kind) numbered
 -- ---- the public functions
 
 pub u-determined : Determines 1 u-kinds.ps u-kinds.r u-reads.Post
-u-determined κs a x y s t p q = told answer Value Refused had x y (p ∙ sym q)
+u-determined κs a x y s t p q = read-told x y (p ∙ sym q)
 
 pub byte-determined : Determines 1 byte-kinds.ps byte-kinds.r byte-reads.Post
 byte-determined κs a x y s t p q = byte-told x y (p ∙ sym q)
@@ -142,7 +145,7 @@ pub word-determined : Determines 1 word-kinds.ps word-kinds.r word-reads.Post
 word-determined κs a x y s t p q = told wordAnswer word.Value word.Refused word-had x y (p ∙ sym q)
 
 pub ue-determined : Determines 1 ue-kinds.ps ue-kinds.r ue-reads.Post
-ue-determined κs a x y s t p q = told answer Value Refused had x y (p ∙ sym q)
+ue-determined κs a x y s t p q = read-told x y (p ∙ sym q)
 
 pub signed-determined : Determines 0 signed-kinds.ps signed-kinds.r signed-reads.Post
 signed-determined κs a x y s t p q = p ∙ sym q

@@ -14,10 +14,10 @@ use Rattle.format.proofs.Worked.{Worked, row, row-at}
 use Rattle.numbers.specs.Depth.{depthBits}
 use Rattle.numbers.specs.declared.depth.DepthNumber.{DepthNumber}
 use Rattle.numbers.specs.declared.depth.DepthNumber.the-variants.{Unspecified, Number}
-use Rattle.depth.specs.Element.{absent, element, elementIf}
-use Rattle.depth.specs.Model.{numbers, noModel, model}
+use Rattle.depth_parts.specs.Element.{absent, element, elementIf}
+use Rattle.depth_parts.specs.Model.{numbers, noModel, model}
 use Rattle.depth.specs.Depth.{flags, refView, values, zeros, depthOf, depth}
-use Rattle.depth.specs.declared.element.DepthValue.{DepthValue}
+use Rattle.depth_parts.specs.declared.element.DepthValue.{DepthValue}
 use Rattle.depth.specs.declared.Flags.{Flags}
 use Rattle.depth.specs.declared.Values.{Values}
 

@@ -11,11 +11,11 @@ use borrow.Author.Tests.{eqb-true, eqb-false}
 use Rattle.format.specs.Coded.{Coded}
 use Rattle.numbers.specs.declared.depth.DepthNumber.the-variants.{Absent}
 use Rattle.numbers.proofs.DepthLaws.{never-absent}
-use Rattle.depth.specs.Element.{element, elementIf}
-use Rattle.depth.specs.Model.{number, numbers, model}
+use Rattle.depth_parts.specs.Element.{element, elementIf}
+use Rattle.depth_parts.specs.Model.{number, numbers, model}
 use Rattle.depth.specs.Depth.{flags, refView, values, depth}
-use Rattle.depth.specs.declared.element.DepthValue.{DepthValue}
-use Rattle.depth.specs.declared.model.Model.{Model}
+use Rattle.depth_parts.specs.declared.element.DepthValue.{DepthValue}
+use Rattle.depth_parts.specs.declared.model.Model.{Model}
 use Rattle.depth.specs.declared.Flags.{Flags}
 use Rattle.depth.specs.declared.Values.{Values}
 use Rattle.depth.specs.declared.Depth.{Depth}

@@ -6,9 +6,9 @@ use Rattle.bits.specs.Out.{Out, taken, refused}
 use Rattle.bits.specs.declared.read.Onward.the-variants as onward
 use Rattle.format.specs.Format.{Format, done, _>>=_}
 use Rattle.format.specs.Syntax.{u, ue, _must_, atMost, if_then_else_}
-use Rattle.depth.specs.Element.{absent, elementIf}
-use Rattle.depth.specs.Model.{noNumbers, model}
-use Rattle.depth.specs.declared.model.Model.{Model}
+use Rattle.depth_parts.specs.Element.{absent, elementIf}
+use Rattle.depth_parts.specs.Model.{noNumbers, model}
+use Rattle.depth_parts.specs.declared.model.Model.{Model}
 use Rattle.depth.specs.declared.Flags.{Flags}
 use Rattle.depth.specs.declared.FlagsRead.{FlagsRead}
 use Rattle.depth.specs.declared.FlagsRead.the-variants as flag

@@ -1,3 +1,1 @@
-pub mod Element
-pub mod Model
 pub mod Depth

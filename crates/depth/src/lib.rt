@@ -1,14 +1,4 @@
 // Kind 177, depth representation information: its record and its reader.
-pub mod element;
-mod judged;
-mod model;
-
-use crate::element::DepthValue;
-use crate::element::ElementRead;
-use crate::element::read_element_if;
-use crate::judged::at_most;
-use crate::model::Model;
-use crate::model::read_model;
 use bits::cursor::Cursor;
 use bits::element::byte;
 use bits::element::ue;
@@ -16,6 +6,12 @@ use bits::read::ByteRead;
 use bits::read::Onward;
 use bits::read::Read;
 use bits::refusal::Refusal;
+use depth_parts::element::DepthValue;
+use depth_parts::element::ElementRead;
+use depth_parts::element::read_element_if;
+use depth_parts::model::Model;
+use depth_parts::model::read_model;
+use format::limit::at_most;
 ghost use mathlib.Core.Path.{_≡_};
 ghost use Rattle.bits.specs.Bits.{Payload};
 ghost use Rattle.bits.specs.Out.{refusalIn, refused as refusedOut};

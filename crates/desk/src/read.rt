@@ -22,7 +22,7 @@ fn refused(n: u32) -> bool {
 
 // The number and, unless it is a refusal, the fields.
 fn report(kind: u64, a: Answer, part: &[u8]) {
-    let n = a.number();
+    let n = a.outcome.number();
     show::number::read(n);
     if !refused(n) {
         answer(Style::Line, kind, a, part);
@@ -31,7 +31,7 @@ fn report(kind: u64, a: Answer, part: &[u8]) {
 }
 
 fn explained(kind: u64, size: u64, a: Answer, part: &[u8]) {
-    let n = a.number();
+    let n = a.outcome.number();
     show::number::read(n);
     introduce(n, kind, size);
     if !refused(n) {
@@ -67,7 +67,7 @@ pub fn read(line: Line, s: &[u8]) {
 }
 
 fn fed(slots: Slots, slot: u64, kind: u64, size: u64, bytes: &[u8]) -> Slots {
-    let fed = calls::feed(slots, slot, kind, size, bytes);
+    let fed = feeding::feed(slots, slot, kind, size, bytes);
     report(kind, fed.answer, user_part(kind, size, bytes));
     fed.slots
 }

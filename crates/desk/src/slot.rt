@@ -71,9 +71,9 @@ fn table_in(slots: Slots, slot: u64, n: u64, rows: &mut [u64]) -> Tabled {
     if n < rows.len() as u64 {
         let start = 0;
         let end = n as usize;
-        return calls::table(slots, slot, &mut rows[start..end]);
+        return tables::table(slots, slot, &mut rows[start..end]);
     }
-    calls::table(slots, slot, rows)
+    tables::table(slots, slot, rows)
 }
 
 fn shown_rows(r: Tabled, rows: &[u64]) {

@@ -9,7 +9,7 @@ use native.Mathlib.Omega.{arith}
 use borrow.Author.Tests.{le-leb, lt-leb}
 use lib.ListN.{length, getD, take, drop, replicate, length-replicate, drop-of-length-le}
 use lib.Seq.{sets, sets-eq, take-suc, length-take-le}
-use Rattle.regions.specs.declared.region.Region.{Region}
+use Rattle.region.specs.declared.Region.{Region}
 use Rattle.lent.proofs.Stores.{sets-append}
 use Rattle.fields.specs.Fields.{regionFields, regionsFields, written, handed}
 

@@ -11,10 +11,10 @@ use Rattle.orientation.specs.declared.Orientation.{Orientation}
 use Rattle.equirectangular.specs.declared.Equirectangular.{Equirectangular}
 use Rattle.rotation.specs.declared.Rotation.{Rotation}
 use Rattle.regions.specs.declared.Packing.{Packing}
-use Rattle.regions.specs.declared.region.Region.{Region}
+use Rattle.region.specs.declared.Region.{Region}
 use Rattle.alpha.specs.declared.Alpha.{Alpha}
 use Rattle.depth.specs.declared.Depth.{Depth}
-use Rattle.depth.specs.declared.element.DepthValue.{DepthValue}
+use Rattle.depth_parts.specs.declared.element.DepthValue.{DepthValue}
 use Rattle.user_data.specs.declared.registered.Registered.{Registered}
 use Rattle.numbers.specs.Degrees.{degreeBits}
 use Rattle.numbers.specs.Depth.{codedBits}

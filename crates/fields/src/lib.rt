@@ -13,8 +13,8 @@ ghost use Rattle.fields.specs.Fields.{written, wrote};
 pub fn write(a: Answer, row: &mut [u64]) -> u32
     ensures { λ r. ⌜ written r (now (row .exit)) ≡ wrote a (now (row .entry)) ⌝ }
 {
-    let number = a.number();
     let outcome = a.outcome;
+    let number = outcome.number();
     match outcome {
         Outcome::Taken => hand_out(row, number, a),
         Outcome::SetAside => hand_out(row, number, a),

@@ -1,4 +1,4 @@
--- The contract of each public function determines its result: `zero`, `refusal`, `read` and `set_aside`.
+-- The contract of each public function determines its result: `zero`, `refusal` and `read`.
 -- Assumes nothing.
 use mathlib.Core.Path.{_≡_, refl, sym, _∙_}
 use Rattle.bits.proofs.Determined.{Determines, told, made}
@@ -11,8 +11,6 @@ use Rattle.frame_packing.proofs.FramePackingRead.refusal.Kinds as refus
 use Rattle.frame_packing.proofs.FramePackingRead.refusal.Reads as refusal-reads
 use Rattle.frame_packing.proofs.read.Kinds as read-kinds
 use Rattle.frame_packing.proofs.read.Reads as read-reads
-use Rattle.frame_packing.proofs.aside.set_aside.Kinds as set-aside-kinds
-use Rattle.frame_packing.proofs.aside.set_aside.Reads as set-aside-reads
 
 had : (r : FramePackingRead) → made Taken Refused (answer r) ≡ r
 had (Taken a c) = refl
@@ -26,6 +24,3 @@ refusal-determined κs a x y s t p q = p ∙ sym q
 
 pub read-determined : Determines 1 read-kinds.ps read-kinds.r read-reads.Post
 read-determined κs a x y s t p q = told answer Taken Refused had x y (p ∙ sym q)
-
-pub set-aside-determined : Determines 0 set-aside-kinds.ps set-aside-kinds.r set-aside-reads.Post
-set-aside-determined κs a x y s t p q = p ∙ sym q

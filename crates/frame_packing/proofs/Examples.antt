@@ -1,8 +1,7 @@
--- Payloads of kind 45, those of 01 and others at its edges, and the edges of what is set aside.
+-- Payloads of kind 45, those of 01 and others at its edges.
 -- Assumes nothing.
 use Prim.Native.Nat.{ℕ}
-use mathlib.Core.Path.{_≡_, refl}
-use mathlib.Core.Bool.{true, false}
+use mathlib.Core.Path.{refl}
 use mathlib.Core.List.{[], _∷_}
 use Rattle.bits.specs.Bits.{bitAt, part, from, number}
 use Rattle.bits.specs.Elements.{uFront, ueAfter}
@@ -11,12 +10,9 @@ use Rattle.bits.specs.declared.refusal.Refusal.the-variants.{Short, Zeros}
 use Rattle.format.specs.Format.{elementFront, run, runAt}
 use Rattle.format.proofs.Worked.{Worked, row}
 use Rattle.frame_packing.specs.FramePacking.{noFlags, noGrid, noLayout, sixFlags, gridPositions, arrangement, framePacking}
-use Rattle.frame_packing.specs.SetAside.{reservedId, reservedType, reservedInterpretation, setAside}
 use Rattle.frame_packing.specs.declared.FramePacking.{FramePacking}
 use Rattle.frame_packing.specs.declared.flags.Flags.{Flags}
 use Rattle.frame_packing.specs.declared.grid.Grid.{Grid}
-
--- ---- payloads
 
 -- a cancel: its id and its upsampled flag
 abbrev cancel-of : ℕ → ℕ → FramePacking
@@ -69,25 +65,3 @@ messages :
     ∷ [])
 unfolding framePacking arrangement sixFlags gridPositions runAt run elementFront ueAfter uFront from part number bitAt
 messages = refl
-
--- ---- set aside
-
--- a message of a type and a content interpretation
-abbrev typed : ℕ → ℕ → FramePacking
-typed t n = message-of t 0 n noFlags noGrid 0 0
-
-ids-kept : (setAside (cancel-of 0 0) ≡ false) × (setAside (cancel-of 255 0) ≡ false) × (setAside (cancel-of 512 0) ≡ false) × (setAside (cancel-of 2147483647 0) ≡ false)
-unfolding setAside reservedId
-ids-kept = (refl, refl, refl, refl)
-
-ids-aside : (setAside (cancel-of 256 0) ≡ true) × (setAside (cancel-of 511 0) ≡ true) × (setAside (cancel-of 2147483648 0) ≡ true) × (setAside (cancel-of 4294967294 0) ≡ true)
-unfolding setAside reservedId
-ids-aside = (refl, refl, refl, refl)
-
-messages-kept : (setAside (typed 3 0) ≡ false) × (setAside (typed 4 1) ≡ false) × (setAside (typed 5 2) ≡ false)
-unfolding setAside reservedId reservedType reservedInterpretation
-messages-kept = (refl, refl, refl)
-
-messages-aside : (setAside (typed 2 0) ≡ true) × (setAside (typed 6 0) ≡ true) × (setAside (typed 3 3) ≡ true)
-unfolding setAside reservedId reservedType reservedInterpretation
-messages-aside = (refl, refl, refl)

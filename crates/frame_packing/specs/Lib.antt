@@ -1,3 +1,2 @@
 pub mod FramePacking
 pub mod Answers
-pub mod SetAside

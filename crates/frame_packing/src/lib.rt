@@ -1,5 +1,4 @@
-// Kind 45, frame packing arrangement: its record and its reader, and which messages are set aside.
-pub mod aside;
+// Kind 45, frame packing arrangement: its record and its reader.
 pub mod flags;
 pub mod grid;
 pub mod layout;

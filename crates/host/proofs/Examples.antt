@@ -12,7 +12,7 @@ use Rattle.format.specs.Format.{elementFront, run}
 use Rattle.format.specs.Whole.{whole}
 use Rattle.numbers.specs.Degrees.{degreeBits}
 use Rattle.frame_packing.specs.FramePacking.{sixFlags, gridPositions, arrangement, framePacking}
-use Rattle.frame_packing.specs.SetAside.{reservedId, reservedType, reservedInterpretation, setAside}
+use Rattle.aside.specs.SetAside.{reservedId, reservedType, reservedInterpretation, setAside}
 use Rattle.orientation.specs.Orientation.{orientation}
 use Rattle.rotation.specs.Rotation.{angleIn, rotation}
 use Rattle.user_data.specs.Registered.{registered}

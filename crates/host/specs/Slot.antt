@@ -6,7 +6,7 @@ use Rattle.answers.specs.Answer.{numberOf}
 use Rattle.slots.specs.Slots.{answerNumber}
 use Rattle.slots.specs.declared.Called as slots-called
 use Rattle.slots.specs.declared.Pictured as slots-pictured
-use Rattle.calls.specs.declared.Fed as calls-fed
+use Rattle.feeding.specs.declared.Fed as calls-fed
 use Rattle.rows.specs.Rows as rows
 use Rattle.rows.specs.declared.Tabled as rows-tabled
 use Rattle.rows.specs.declared.Tabled.the-variants.{Rows, Refused}

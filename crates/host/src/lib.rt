@@ -1,9 +1,9 @@
 // What a C player calls to read a payload. A slice is a pointer and then a length; host/bruskelde.h has the C declarations.
 pub mod slot;
 
-use reader::payload::number;
 use reader::payload::read;
 use reader::user::Start;
+use verdict::number;
 ghost use mathlib.Core.Path.{_≡_};
 ghost use Rattle.answers.specs.Answer.{numberOf};
 ghost use Rattle.reader.specs.Reader.{answerTo};

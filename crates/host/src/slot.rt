@@ -6,8 +6,8 @@ ghost use mathlib.Core.Path.{_≡_};
 ghost use lib.ListN.{length};
 ghost use Rattle.slots.specs.Slots.{start, opened, closed, sequenced, pictured};
 ghost use Rattle.rows.specs.Rows.{wrote};
-ghost use Rattle.calls.specs.Feed.{fedTo};
-ghost use Rattle.calls.specs.Table.{tableIn};
+ghost use Rattle.feeding.specs.Feed.{fedTo};
+ghost use Rattle.tables.specs.Table.{tableIn};
 ghost use Rattle.host.specs.Slot.{inNumbers, fedInNumbers, picturedInNumbers, tabledInNumbers, outcome, outcomeInNumbers};
 
 #[no_mangle]
@@ -70,11 +70,12 @@ pub struct Fed {
 pub extern "C" fn bruskelde_feed(slots: Slots, slot: u64, kind: u64, size: u64, bytes: &[u8]) -> Fed
     ensures { λ r. ⌜ r ≡ fedInNumbers (fedTo slots slot kind size (now (bytes .entry))) ⌝ }
 {
-    let fed = calls::feed(slots, slot, kind, size, bytes);
+    let fed = feeding::feed(slots, slot, kind, size, bytes);
     let answer = fed.answer;
+    let outcome = answer.outcome;
     let slots = fed.slots;
     Fed {
-        number: answer.number(),
+        number: outcome.number(),
         extension: answer.extension,
         slots,
     }
@@ -129,6 +130,6 @@ impl Tabled {
 pub extern "C" fn bruskelde_table(slots: Slots, slot: u64, lent: &mut [u64]) -> Tabled
     ensures { λ r. ⌜ outcome r (now (lent .exit)) ≡ outcomeInNumbers (wrote (tableIn slots slot (length (now (lent .entry)))) (now (lent .entry))) ⌝ }
 {
-    let answer = calls::table(slots, slot, lent);
+    let answer = tables::table(slots, slot, lent);
     Tabled::of(answer)
 }

@@ -44,8 +44,8 @@ use Rattle.held.specs.declared.HeldEquirectangular.{HeldEquirectangular}
 use Rattle.held.specs.declared.HeldRotation.{HeldRotation}
 use Rattle.held.specs.declared.HeldPacking.{HeldPacking}
 use Rattle.held.specs.declared.Held.{Held}
-use Rattle.calls.specs.Feed.{heldAfter}
-use Rattle.calls.proofs.FeedLaws.{if-ap, Unheld, alpha, depth, registered, unregistered}
+use Rattle.feeding.specs.Feed.{heldAfter}
+use Rattle.feeding.proofs.FeedLaws.{if-ap, Unheld, alpha, depth, registered, unregistered}
 use Rattle.isolation.specs.Lasting.{Lasting, framePacking, orientation, equirectangular, rotation, regionWise, kindOf, cancelOf, persistenceOf, Marked, heldOf}
 
 -- ---- what is held of each

@@ -9,7 +9,7 @@ use mathlib.Core.List.{List, [], _∷_, _++_}
 use lib.ListN.{take}
 use Rattle.format.specs.Coded.{Coded}
 use Rattle.format.specs.Whole.{Reading, taken, setAside, refused as refused-reading}
-use Rattle.regions.specs.Region.{most}
+use Rattle.regions.specs.List.{most}
 use Rattle.regions.specs.declared.Packing.{Packing}
 use Rattle.regions.proofs.Kept as regions
 use Rattle.answers.specs.Listed.{Record, form, number, named, readingOf}
@@ -26,8 +26,8 @@ use Rattle.format.specs.Syntax.{if_then_else_}
 use Rattle.slots.specs.Slots.{Eight, slotAt, isOpen, freshSlot}
 use Rattle.slots.specs.declared.Slot.{Slot}
 use Rattle.slots.specs.declared.Slots.{Slots}
-use Rattle.calls.specs.Feed.{shutAnswer}
-use Rattle.calls.proofs.FeedLaws.{shut-8}
+use Rattle.feeding.specs.Feed.{shutAnswer}
+use Rattle.feeding.proofs.FeedLaws.{shut-8}
 use Rattle.isolation.specs.Runs.{Call, opens, closes, sequences, pictures, feeds, tables, Reply, read, turn, ends, after, only}
 use Rattle.isolation.specs.Lasting.{Lasting, regionWise, kindOf, cancelOf, HoldsOf, Told, history, Answers, Since}
 use Rattle.isolation.proofs.HeldKinds.{same-number, same-value}

@@ -15,8 +15,8 @@ use Rattle.slots.specs.declared.Slot.{Slot}
 use Rattle.slots.specs.declared.Slots.{Slots}
 use Rattle.slots.proofs.Laws as laws
 use Rattle.slots.proofs.Laws.{ButFor}
-use Rattle.calls.specs.Table.{tableIn}
-use Rattle.calls.proofs.FeedLaws.{if-ap, fed-answer, fed-there, fed-but-for, fed-untaken}
+use Rattle.tables.specs.Table.{tableIn}
+use Rattle.feeding.proofs.FeedLaws.{if-ap, fed-answer, fed-there, fed-but-for, fed-untaken}
 use Rattle.isolation.specs.Runs.{Call, opens, closes, sequences, pictures, feeds, tables, slotOf, Reply, said, shown, read, step, refused, turn, Unchanging}
 
 -- a slot and a reply that go by one test

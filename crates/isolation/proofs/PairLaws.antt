@@ -27,8 +27,8 @@ use Rattle.format.specs.Syntax.{if_then_else_}
 use Rattle.slots.specs.Slots.{isOpen, holding}
 use Rattle.held.specs.declared.Held.{Held}
 use Rattle.slots.specs.declared.Slot.{Slot}
-use Rattle.calls.specs.Feed.{heldAfter, shutAnswer}
-use Rattle.calls.specs.Table.{tableOfHeld}
+use Rattle.feeding.specs.Feed.{heldAfter, shutAnswer}
+use Rattle.tables.specs.Table.{tableOfHeld}
 use Rattle.isolation.specs.Runs.{Call, Reply, read, tabled, turn, ends, replies, unextended, blind, blinds}
 use Rattle.isolation.specs.Pairs.{Message, Varied, Pair, same, cut, varied, lent, Pairs, end, both}
 

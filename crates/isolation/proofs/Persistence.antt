@@ -26,8 +26,8 @@ use Rattle.held.specs.declared.Held.{Held}
 use Rattle.slots.specs.declared.Slot.{Slot}
 use Rattle.slots.specs.declared.Answer.the-variants.{Done}
 use Rattle.slots.proofs.Laws.{fresh-open, fresh-holds, closed-holds, holding-open, holding-holds}
-use Rattle.calls.specs.Feed.{heldAfter, shutAnswer}
-use Rattle.calls.proofs.FeedLaws.{untaken-keeps, Unheld, alpha, depth, registered, unregistered, unheld-keeps, shut-8}
+use Rattle.feeding.specs.Feed.{heldAfter, shutAnswer}
+use Rattle.feeding.proofs.FeedLaws.{untaken-keeps, Unheld, alpha, depth, registered, unregistered, unheld-keeps, shut-8}
 use Rattle.isolation.specs.Runs.{Call, opens, closes, sequences, pictures, feeds, tables, Reply, said, shown, read, tabled, refused, turn, ends}
 use Rattle.isolation.specs.Lasting.{Lasting, framePacking, orientation, equirectangular, rotation, regionWise, kindOf, cancelOf, persistenceOf, Marked, heldOf, HoldsOf, Told, history, Answers, Gives, Leaves, Leave, Since}
 use Rattle.isolation.proofs.HeldKinds.{none, nothing-of, kept-of, taken-of, other-of, same-number, same-kind, unheld-apart, same-value}

@@ -20,12 +20,12 @@ use Rattle.slots.proofs.Slots.sequence.Kinds as sequence-kinds
 use Rattle.slots.proofs.Slots.sequence.Reads as sequence-reads
 use Rattle.slots.proofs.Slots.picture.Kinds as picture-kinds
 use Rattle.slots.proofs.Slots.picture.Reads as picture-reads
-use Rattle.calls.specs.Table.{tableIn}
-use Rattle.calls.specs.declared.Fed.{Fed}
-use Rattle.calls.proofs.feed.Kinds as feed-kinds
-use Rattle.calls.proofs.feed.Reads as feed-reads
-use Rattle.calls.proofs.table.Kinds as table-kinds
-use Rattle.calls.proofs.table.Reads as table-reads
+use Rattle.tables.specs.Table.{tableIn}
+use Rattle.feeding.specs.declared.Fed.{Fed}
+use Rattle.feeding.proofs.feed.Kinds as feed-kinds
+use Rattle.feeding.proofs.feed.Reads as feed-reads
+use Rattle.tables.proofs.table.Kinds as table-kinds
+use Rattle.tables.proofs.table.Reads as table-reads
 use Rattle.isolation.specs.Runs.{opens, closes, sequences, pictures, feeds, tables, Reply, said, shown, read, tabled, step}
 
 -- what a call of crate slots says and leaves

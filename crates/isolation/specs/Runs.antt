@@ -17,8 +17,8 @@ use Rattle.slots.specs.declared.Answer.the-variants.{Done, Refused}
 use Rattle.held.specs.declared.Held.{Held}
 use Rattle.slots.specs.declared.Slot.{Slot}
 use Rattle.slots.specs.declared.Slots.{Slots}
-use Rattle.calls.specs.Feed.{heldAfter, shutAnswer, fedTo}
-use Rattle.calls.specs.Table.{tableOfHeld, tableIn}
+use Rattle.feeding.specs.Feed.{heldAfter, shutAnswer, fedTo}
+use Rattle.tables.specs.Table.{tableOfHeld, tableIn}
 
 -- a call: on a slot; with a kind, a size and the lent bytes; with the lent numbers
 pub data Call : Type 0 where

@@ -26,7 +26,7 @@ pub fn frame_packing(s: &[u8]) -> Answer
         return Answer::refused(Kind::FramePacking, r.refusal());
     };
     let end = tail(s, c);
-    if frame_packing::aside::set_aside(a) {
+    if aside::set_aside(a) {
         return Answer::finished(
             Kind::FramePacking,
             Outcome::SetAside,

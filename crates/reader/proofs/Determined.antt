@@ -8,8 +8,6 @@ use borrow.Fn.Kinds.{Dens, resT, endedOf}
 use Rattle.bits.proofs.Determined.{Determines}
 use Rattle.reader.proofs.payload.read.Kinds as read-kinds
 use Rattle.reader.proofs.payload.read.Reads as read-reads
-use Rattle.reader.proofs.payload.number.Kinds as number-kinds
-use Rattle.reader.proofs.payload.number.Reads as number-reads
 use Rattle.reader.proofs.user.Start.of.Kinds as start-of-kinds
 use Rattle.reader.proofs.user.Start.of.Reads as start-of-reads
 use Rattle.reader.proofs.user.user_part.Kinds as user-part-kinds
@@ -17,9 +15,6 @@ use Rattle.reader.proofs.user.user_part.Reads as user-part-reads
 
 pub read-determined : Determines 1 read-kinds.ps read-kinds.r read-reads.Post
 read-determined κs a x y s t p q = p ∙ sym q
-
-pub number-determined : Determines 1 number-kinds.ps number-kinds.r number-reads.Post
-number-determined κs a x y s t p q = p ∙ sym q
 
 pub start-of-determined : Determines 0 start-of-kinds.ps start-of-kinds.r start-of-reads.Post
 start-of-determined κs a x y s t p q = p ∙ sym q

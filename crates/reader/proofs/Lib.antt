@@ -1,5 +1,5 @@
 pub mod Order
-mod EntryLaws
+pub mod ByEntry
 pub mod Demand2
 pub mod Local
 pub mod Numbers

@@ -2,11 +2,9 @@
 -- Assumes nothing.
 use Prim.Native.Nat.{ℕ, _≤_, _<_}
 use mathlib.Core.Path.{_≡_, ap, _∙_}
-use mathlib.Core.Bool.{Bool, true, false, _&&_}
+use mathlib.Core.Bool.{Bool, true, false}
 use mathlib.Core.List.{List}
-use borrow.Author.Tests.{le-leb, lt-leb}
 use lib.ListN.{length, take}
-use lib.Dec.{leb}
 use Rattle.bits.specs.Refusals.{bySize}
 use Rattle.answers.specs.Listed.{named, readingOf}
 use Rattle.answers.specs.Answer.{answerFor, refusedAs, unknown}
@@ -14,9 +12,7 @@ use Rattle.answers.proofs.AnswerLaws.{refused-plain}
 use Rattle.reader.specs.Reader.{sized, cut, answered, answerTo}
 use Rattle.answers.specs.declared.kind.Kind.{Kind}
 use Rattle.answers.specs.declared.kind.Named.the-variants.{Listed, Unlisted}
-
-pub too-large : (size : ℕ) (l : Bool) → 8192 < size → (leb size 8192 && l) ≡ false
-too-large size l h = rw (lt-leb size 8192 h)
+use Rattle.entry.proofs.EntryLaws.{too-large, too-long, within}
 
 module _ (n size : ℕ) (bytes : List ℕ) where
   pub to-unlisted : named n ≡ Unlisted → answerTo n size bytes ≡ unknown
@@ -28,10 +24,10 @@ module _ (n size : ℕ) (bytes : List ℕ) where
   at-kind k e b h = ap (λ x. answered x size bytes) e ∙ ap (λ x. answerFor k (cut k x size bytes)) h
 
   pub to-large : (k : Kind) → named n ≡ Listed k → 8192 < size → answerTo n size bytes ≡ refusedAs k bySize
-  to-large k e h = at-kind k e false (too-large size (leb size (length bytes)) h) ∙ refused-plain k bySize
+  to-large k e h = at-kind k e false (too-large size (length bytes) h) ∙ refused-plain k bySize
 
   pub to-long : (k : Kind) → named n ≡ Listed k → size ≤ 8192 → length bytes < size → answerTo n size bytes ≡ refusedAs k bySize
-  to-long k e h l = at-kind k e false (rw (le-leb size 8192 h, lt-leb size (length bytes) l)) ∙ refused-plain k bySize
+  to-long k e h l = at-kind k e false (too-long size (length bytes) h l) ∙ refused-plain k bySize
 
   pub to-payload : (k : Kind) → named n ≡ Listed k → size ≤ 8192 → size ≤ length bytes → answerTo n size bytes ≡ answerFor k (readingOf k (take size bytes))
-  to-payload k e h l = at-kind k e true (rw (le-leb size 8192 h, le-leb size (length bytes) l))
+  to-payload k e h l = at-kind k e true (within size (length bytes) h l)

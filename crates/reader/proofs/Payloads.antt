@@ -10,12 +10,12 @@ use Rattle.format.specs.Whole.{whole}
 use Rattle.numbers.specs.Degrees.{degreeBits}
 use Rattle.numbers.specs.Depth.{depthBits}
 use Rattle.frame_packing.specs.FramePacking.{sixFlags, gridPositions, arrangement, framePacking}
-use Rattle.frame_packing.specs.SetAside.{reservedId, reservedType, reservedInterpretation, setAside}
+use Rattle.aside.specs.SetAside.{reservedId, reservedType, reservedInterpretation, setAside}
 use Rattle.equirectangular.specs.Equirectangular.{guardBand, equirectangular}
 use Rattle.rotation.specs.Rotation.{angleIn, rotation}
 use Rattle.alpha.specs.Alpha.{flags, information, alpha}
-use Rattle.depth.specs.Element.{element, elementIf}
-use Rattle.depth.specs.Model.{model}
+use Rattle.depth_parts.specs.Element.{element, elementIf}
+use Rattle.depth_parts.specs.Model.{model}
 use Rattle.depth.specs.Depth as depths
 use Rattle.answers.specs.Listed.{named, readingOf}
 use Rattle.reader.specs.Reader.{answerTo}

@@ -1,4 +1,3 @@
-pub mod Entry
 pub mod Reader
 pub mod Payloads
 pub mod User

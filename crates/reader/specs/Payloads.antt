@@ -12,7 +12,7 @@ use Rattle.equirectangular.specs.declared.Equirectangular.{Equirectangular}
 use Rattle.rotation.specs.declared.Rotation.{Rotation}
 use Rattle.alpha.specs.declared.Alpha.{Alpha}
 use Rattle.depth.specs.declared.Depth.{Depth}
-use Rattle.depth.specs.declared.element.DepthValue.{DepthValue}
+use Rattle.depth_parts.specs.declared.element.DepthValue.{DepthValue}
 use Rattle.answers.specs.declared.kind.Kind.the-variants as kinds
 use Rattle.answers.specs.declared.Answer.{Answer}
 use Rattle.answers.specs.declared.Outcome.the-variants.{Taken}

@@ -9,7 +9,7 @@ use Rattle.answers.specs.Listed.{Record, readingOf, named}
 use Rattle.answers.specs.declared.kind.Kind.{Kind}
 use Rattle.answers.specs.declared.kind.Named.{Named}
 use Rattle.answers.specs.declared.kind.Named.the-variants.{Listed, Unlisted}
-use Rattle.reader.specs.Entry.{fits}
+use Rattle.entry.specs.Entry.{fits}
 use Rattle.answers.specs.Answer.{answerFor, unknown}
 use Rattle.answers.specs.declared.Answer.{Answer}
 

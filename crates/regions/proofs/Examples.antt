@@ -9,14 +9,15 @@ use Rattle.bits.specs.Out.{taken, refused}
 use Rattle.bits.specs.declared.refusal.Refusal.the-variants.{Short, Rule, Regions}
 use Rattle.format.specs.Format.{elementFront, run, runAt, times}
 use Rattle.format.proofs.Worked.{Worked, row}
-use Rattle.regions.specs.Projected.{projectedArea}
-use Rattle.regions.specs.Packed.{packedArea}
-use Rattle.regions.specs.Bands.{guardTypes, guardBands, noGuardBands}
+use Rattle.region.specs.Projected.{projectedArea}
+use Rattle.region.specs.Packed.{packedArea}
+use Rattle.region.specs.Bands.{guardTypes, guardBands, noGuardBands}
 use Rattle.format.specs.Syntax.{padded}
-use Rattle.regions.specs.Region.{most, region, regions, noRegion}
+use Rattle.region.specs.Region.{region, noRegion}
+use Rattle.regions.specs.List.{most, regions}
 use Rattle.regions.specs.Head.{head, pictures}
 use Rattle.regions.specs.Packing.{packing, cancelled}
-use Rattle.regions.specs.declared.bands.GuardBands.{GuardBands}
+use Rattle.region.specs.declared.bands.GuardBands.{GuardBands}
 use Rattle.regions.specs.declared.Packing.{Packing}
 
 -- 14 bytes before the regions, for one of them, and the areas of a region. The first byte ends with five reserved bits.

@@ -8,7 +8,7 @@ use Rattle.bits.specs.Out.{taken, refused}
 use Rattle.bits.specs.declared.refusal.Refusal.the-variants.{Rule, Regions}
 use Rattle.format.specs.Format.{ruled}
 use Rattle.format.specs.Syntax.{atLeast}
-use Rattle.regions.specs.Region.{most}
+use Rattle.regions.specs.List.{most}
 use Rattle.regions.specs.Head.{countable}
 
 module _ (v q : ℕ) where

@@ -13,7 +13,8 @@ use Rattle.format.specs.Syntax.{_unless_, _or_}
 use Rattle.format.specs.Coded.{Coded}
 use Rattle.format.proofs.Always.{Always, Padded, code-below, always-part, always-if, always-any, always-listed, always-coded}
 use Rattle.regions.specs.declared.Packing.{Packing}
-use Rattle.regions.specs.Region.{most, region, regions, noRegion}
+use Rattle.region.specs.Region.{region, noRegion}
+use Rattle.regions.specs.List.{most, regions}
 use Rattle.regions.specs.Head.{countable, head, pictures}
 use Rattle.regions.specs.Packing.{packing}
 

@@ -14,12 +14,13 @@ use Rattle.format.specs.Format.{done, runAt, times}
 use Rattle.format.specs.Syntax.{if_then_else_}
 use Rattle.format.specs.Coded.{Coded}
 use Rattle.format.proofs.Always.{Always, always-part, always-if, always-times, always-coded, always-taken}
-use Rattle.regions.specs.declared.region.Region.{Region}
+use Rattle.region.specs.declared.Region.{Region}
 use Rattle.regions.specs.declared.Packing.{Packing}
-use Rattle.regions.specs.Projected.{projectedArea}
-use Rattle.regions.specs.Packed.{packedArea}
-use Rattle.regions.specs.Bands.{guardTypes, guardBands, bandsWhere, noGuardBands}
-use Rattle.regions.specs.Region.{region, regions}
+use Rattle.region.specs.Projected.{projectedArea}
+use Rattle.region.specs.Packed.{packedArea}
+use Rattle.region.specs.Bands.{guardTypes, guardBands, bandsWhere, noGuardBands}
+use Rattle.region.specs.Region.{region}
+use Rattle.regions.specs.List.{regions}
 use Rattle.regions.specs.Head.{head, pictures}
 use Rattle.regions.specs.Packing.{packing}
 

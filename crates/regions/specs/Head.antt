@@ -11,7 +11,7 @@ use Rattle.regions.specs.declared.head.HeadRead.the-variants as head-rea
 use Rattle.regions.specs.declared.head.Pictures.{Pictures}
 use Rattle.regions.specs.declared.head.PicturesRead.{PicturesRead}
 use Rattle.regions.specs.declared.head.PicturesRead.the-variants as pictures-read
-use Rattle.regions.specs.Region.{most}
+use Rattle.regions.specs.List.{most}
 
 -- a count of regions: 5 where it is 0, 6 above the limit
 abbrev pub countable : ℕ → Verdict

@@ -1,6 +1,3 @@
-pub mod Projected
-pub mod Packed
-pub mod Bands
-pub mod Region
+pub mod List
 pub mod Head
 pub mod Packing

@@ -8,10 +8,10 @@ use Rattle.format.specs.Format.{Format, done, _>>=_}
 use Rattle.format.specs.Syntax.{u, if_then_else_}
 use Rattle.regions.specs.declared.head.Head.{Head}
 use Rattle.regions.specs.declared.head.Pictures.{Pictures}
-use Rattle.regions.specs.declared.region.Region.{Region}
+use Rattle.region.specs.declared.Region.{Region}
 use Rattle.regions.specs.declared.Packing.{Packing}
 use Rattle.regions.specs.declared.PackingRead.{PackingRead}
-use Rattle.regions.specs.Region.{regions, noRegions}
+use Rattle.regions.specs.List.{regions, noRegions}
 use Rattle.regions.specs.Head.{head, pictures}
 
 -- the record of a message that carries its cancel flag alone

@@ -1,9 +1,6 @@
 // Kind 155, region-wise packing: its record and its reader.
-pub mod bands;
 mod head;
-pub mod packed;
-pub mod projected;
-pub mod region;
+mod list;
 
 use bits::cursor::Cursor;
 use bits::element::byte;
@@ -14,9 +11,9 @@ use head::HeadRead;
 use head::PicturesRead;
 use head::read_head;
 use head::read_pictures;
+use list::no_regions;
+use list::read_regions;
 use region::Region;
-use region::no_regions;
-use region::read_regions;
 ghost use mathlib.Core.Path.{_≡_};
 ghost use Rattle.bits.specs.Bits.{Payload};
 ghost use Rattle.bits.specs.Out.{refused};

@@ -6,9 +6,10 @@ use mathlib.Core.List.{List, [], _∷_}
 use lib.ListN.{replicate}
 use Rattle.bits.specs.Refusals.{byTable, byRows}
 use Rattle.format.specs.Syntax.{padded}
-use Rattle.regions.specs.Bands.{noGuardBands}
-use Rattle.regions.specs.Region.{most, noRegion}
-use Rattle.regions.specs.declared.region.Region.{Region}
+use Rattle.region.specs.Bands.{noGuardBands}
+use Rattle.region.specs.Region.{noRegion}
+use Rattle.regions.specs.List.{most}
+use Rattle.region.specs.declared.Region.{Region}
 use Rattle.regions.specs.declared.Packing.{Packing}
 use Rattle.rows.specs.declared.Split.the-variants.{Whole, Beside, Below}
 use Rattle.rows.specs.declared.Tabled.the-variants.{Rows, Refused}

@@ -10,7 +10,7 @@ use lib.Seq.{take-at, drop-at}
 use Rattle.bits.specs.Refusals.{byTable, byRows}
 use Rattle.bits.specs.declared.refusal.Refusal.{Refusal}
 use Rattle.bits.proofs.BitLaws.{below as below-or-not}
-use Rattle.regions.specs.Region.{most}
+use Rattle.regions.specs.List.{most}
 use Rattle.regions.specs.declared.Packing.{Packing}
 use Rattle.rows.specs.declared.Split.{Split}
 use Rattle.rows.specs.declared.Tabled.{Tabled}

@@ -11,7 +11,7 @@ use lib.ListN.{length, getD, take, drop, length-append}
 use lib.Seq.{sets, sets-eq, take-suc, length-take-le}
 use Rattle.bits.specs.Refusals.{byRows}
 use Rattle.lent.proofs.Stores.{sets-append}
-use Rattle.regions.specs.declared.region.Region.{Region}
+use Rattle.region.specs.declared.Region.{Region}
 use Rattle.rows.specs.declared.Shift.{Shift}
 use Rattle.rows.specs.declared.Tabled.the-variants.{Rows, Refused}
 use Rattle.rows.specs.Rows.{row, rowsBy, noShift, twiceOf, fitted, outcome, wrote}

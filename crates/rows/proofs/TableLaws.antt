@@ -7,7 +7,7 @@ use native.Mathlib.Omega.{arith}
 use borrow.Author.Tests.{le-leb, lt-leb}
 use lib.ListN.{length}
 use Rattle.bits.specs.Refusals.{byTable, byRows}
-use Rattle.regions.specs.Region.{most}
+use Rattle.regions.specs.List.{most}
 use Rattle.regions.specs.declared.Packing.{Packing}
 use Rattle.rows.specs.declared.Split.{Split}
 use Rattle.rows.specs.declared.Split.the-variants.{Whole, Beside, Below}

@@ -6,8 +6,8 @@ use lib.Dec.{leb}
 use lib.ListN.{length, take, drop}
 use Rattle.bits.specs.Refusals.{byTable, byRows}
 use Rattle.bits.specs.declared.refusal.Refusal.{Refusal}
-use Rattle.regions.specs.Region.{most}
-use Rattle.regions.specs.declared.region.Region.{Region}
+use Rattle.regions.specs.List.{most}
+use Rattle.region.specs.declared.Region.{Region}
 use Rattle.regions.specs.declared.Packing.{Packing}
 use Rattle.rows.specs.declared.Shift.{Shift}
 use Rattle.rows.specs.declared.Split.{Split}

@@ -1,14 +1,14 @@
 // The region table of a packing, written to lent numbers.
 use bits::refusal::Refusal;
 use lent::put;
+use region::Region;
 use regions::MOST;
 use regions::Packing;
-use regions::region::Region;
 ghost use mathlib.Core.Path.{_≡_};
 ghost use Prim.Native.Nat.{_+_, _*_, _≤_};
 ghost use lib.ListN.{length, take};
 ghost use lib.Seq.{sets};
-ghost use Rattle.regions.specs.Region.{most};
+ghost use Rattle.regions.specs.List.{most};
 ghost use Rattle.rows.specs.Rows.{noShift, row, rowsBy, twiceOf, fitted, tableOf, outcome, wrote};
 
 // How the second half of the rows is shifted.

@@ -1,5 +1,5 @@
 // Two runs of calls with what each answers: the slot example of 01, and a slot that passes from one camera to another.
-use calls::feed;
+use feeding::feed;
 use show::answer::answer;
 use show::number::called;
 use show::number::read;

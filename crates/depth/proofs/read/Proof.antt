@@ -10,11 +10,11 @@ use Rattle.bits.specs.Coding.{golomb}
 use Rattle.bits.specs.Answers.{answer}
 use Rattle.format.specs.Format.{runAt}
 use Rattle.format.proofs.Steps.{step-done, step, step-part, At, start, next, last, stop}
-use Rattle.depth.specs.Model.{model, modelRead}
+use Rattle.depth_parts.specs.Model.{model, modelRead}
 use Rattle.depth.specs.Depth.{flags, flagsAnswer, refView, values, valuesAnswer, table, depth, depthRead}
 use Rattle.depth.specs.declared.Depth.{Depth}
-use Rattle.depth.specs.declared.model.Model.{Model}
-use Rattle.depth.specs.declared.model.ModelRead.{ModelRead}
+use Rattle.depth_parts.specs.declared.model.Model.{Model}
+use Rattle.depth_parts.specs.declared.model.ModelRead.{ModelRead}
 use Rattle.format.proofs.ReaderLaws.{at-most-kept, beside, stopped-beside}
 use Rattle.depth.proofs.read.Statement.{statement}
 use Rattle.depth.proofs.read.Tie as tie

@@ -6,7 +6,7 @@ use mathlib.Core.Path.{_≡_, refl, ap, _∙_}
 use borrow.Author.Needs.{needs}
 use Rattle.format.specs.Format.{runAt}
 use Rattle.format.proofs.Steps.{step-done, step-part, At, start, next, last, stop}
-use Rattle.depth.specs.Element.{elementIf, elementAnswer}
+use Rattle.depth_parts.specs.Element.{elementIf, elementAnswer}
 use Rattle.depth.specs.Depth.{valuesTable, values}
 use Rattle.depth.specs.declared.Flags.{Flags}
 use Rattle.depth.specs.declared.Values.{Values}

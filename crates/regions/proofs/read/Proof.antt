@@ -9,13 +9,13 @@ use Rattle.bits.specs.Out.{Out, taken, refused, refusalIn}
 use Rattle.bits.specs.Answers.{byteAnswer}
 use Rattle.format.specs.Format.{runAt}
 use Rattle.format.proofs.Steps.{step-done, step-code, step-part, step-yes, step-no, At, start, next, last, stop}
-use Rattle.regions.specs.Region.{most, regions, regionsRead}
+use Rattle.regions.specs.List.{most, regions, regionsRead}
 use Rattle.regions.specs.Head.{head, headAnswer, picturesAnswer}
 use Rattle.regions.specs.Packing.{table, packing, packingRead}
 use Rattle.regions.specs.declared.Packing.{Packing}
 use Rattle.regions.specs.declared.head.Head.{Head}
-use Rattle.regions.specs.declared.region.Region.{Region}
-use Rattle.regions.specs.declared.region.RegionsRead.{RegionsRead}
+use Rattle.region.specs.declared.Region.{Region}
+use Rattle.regions.specs.declared.list.RegionsRead.{RegionsRead}
 use Rattle.format.proofs.ReaderLaws.{beside}
 use Rattle.format.proofs.Always.{always-taken}
 use Rattle.regions.proofs.Kept.{head-kept}

@@ -6,7 +6,7 @@ use native.Mathlib.Omega.{arith}
 use borrow.Author.Needs.{needs}
 use lib.ListN.{length, take}
 use lib.Seq.{sets}
-use Rattle.regions.specs.Region.{most}
+use Rattle.regions.specs.List.{most}
 use Rattle.rows.specs.Rows.{rowsBy}
 use Rattle.rows.proofs.RowLaws.{rows-more}
 use Rattle.rows.proofs.put_rows.Statement.{statement}

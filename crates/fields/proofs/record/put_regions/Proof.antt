@@ -6,7 +6,7 @@ use native.Mathlib.Omega.{arith}
 use borrow.Author.Needs.{needs}
 use lib.ListN.{length, take}
 use lib.Seq.{sets, take-all}
-use Rattle.regions.specs.Region.{most}
+use Rattle.regions.specs.List.{most}
 use Rattle.fields.specs.Fields.{regionsFields}
 use Rattle.fields.proofs.RowLaws.{fields-more}
 use Rattle.fields.proofs.record.put_regions.Statement.{statement}

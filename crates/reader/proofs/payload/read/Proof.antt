@@ -4,7 +4,7 @@ use mathlib.Core.Path.{sym}
 use native.Mathlib.Omega.{arith}
 use denote.Ref.{now}
 use lib.ListN.{length-take}
-use Rattle.reader.proofs.EntryLaws.{when-unlisted, when-oversized, when-payload}
+use Rattle.reader.proofs.ByEntry.{when-unlisted, when-oversized, when-payload}
 use Rattle.reader.proofs.payload.read.Statement.{statement}
 use Rattle.reader.proofs.payload.read.Tie as tie
 

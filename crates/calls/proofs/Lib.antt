@@ -1,4 +1,0 @@
-pub mod FeedLaws
-pub mod TableLaws
-pub mod Determined
-mod Examples

@@ -1,0 +1,103 @@
+-- 01's story of a slot, and calls that are refused, as closed computations.
+-- Assumes nothing.
+use Prim.Native.Nat.{ℕ}
+use mathlib.Core.Path.{_≡_, refl}
+use mathlib.Core.List.{List, [], _∷_}
+use Rattle.bits.specs.Bits.{bitAt, part, from, number}
+use Rattle.bits.specs.Elements.{uFront, ueAfter}
+use Rattle.bits.specs.Tail.{lastOne, tailOf}
+use Rattle.bits.specs.Refusals.{bySlot}
+use Rattle.format.specs.Format.{elementFront, run}
+use Rattle.format.specs.Whole.{whole}
+use Rattle.frame_packing.specs.FramePacking.{noFlags, noGrid, sixFlags, gridPositions, arrangement, framePacking}
+use Rattle.aside.specs.SetAside.{reservedId, reservedType, reservedInterpretation, setAside}
+use Rattle.frame_packing.specs.declared.FramePacking.{FramePacking}
+use Rattle.answers.specs.Listed.{named, readingOf}
+use Rattle.answers.specs.Answer.{plain, made, refusedAs}
+use Rattle.reader.specs.Reader.{answerTo}
+use Rattle.answers.specs.declared.kind.Kind.the-variants as kinds
+use Rattle.answers.specs.declared.Outcome.the-variants.{Taken, Refused}
+use Rattle.answers.specs.declared.Message.the-variants.{Nothing}
+use Rattle.held.specs.Held.{
+  nothing,
+  kept,
+  noFramePacking,
+  noOrientation,
+  noEquirectangular,
+  noRotation,
+  noPacking,
+  keptFramePacking,
+  keptOrientation,
+  keptEquirectangular,
+  keptRotation,
+  keptPacking,
+  takenFramePacking,
+  withFramePacking,
+}
+use Rattle.slots.specs.Slots.{start, slotAt, withSlot, isOpen, holding, freshSlot, closedSlot, opened, pictured}
+use Rattle.held.specs.declared.Held.{Held}
+use Rattle.slots.specs.declared.Slots.{Slots}
+use Rattle.feeding.specs.Feed.{heldAfter, shutAnswer, fedTo}
+
+-- ---- 8 comes before anything is read
+
+-- with the zeros of the kind asked for ..
+shut-orientation : fedTo start 0 47 1 (0x50 ∷ []) ≡ record { answer = refusedAs kinds.Orientation bySlot; slots = start }
+unfolding fedTo shutAnswer named start slotAt isOpen closedSlot
+shut-orientation = refl
+
+-- .. also where the kind is unknown and the size too large, and where there is no such slot
+shut-unknown : fedTo start 8 46 9000 [] ≡ record { answer = plain (Refused bySlot) Nothing 0; slots = start }
+unfolding fedTo shutAnswer named start slotAt isOpen closedSlot
+shut-unknown = refl
+
+-- ---- the slot of 01: open, feed 81 81 00 00 00 02, picture shows it; feed 81 81 00 00 00 00, picture shows that; the next shows nothing
+
+abbrev message : ℕ → FramePacking
+message persistence =
+    record {
+      id = 0;
+      cancel = 0;
+      layout =
+          record {
+            «arrangement_type» = 3;
+            quincunx = 0;
+            «content_interpretation» = 1;
+            flags = noFlags;
+            grid = noGrid;
+            persistence = persistence;
+          };
+      «upsampled_aspect_ratio» = 0;
+    }
+
+abbrev payload : ℕ → List ℕ
+payload last = 0x81 ∷ 0x81 ∷ 0 ∷ 0 ∷ 0 ∷ last ∷ []
+
+reads : answerTo 45 6 (payload 2) ≡ made kinds.FramePacking Taken (message 1) 0
+unfolding answerTo named readingOf whole framePacking arrangement sixFlags gridPositions run elementFront ueAfter uFront from part number bitAt lastOne tailOf setAside reservedId reservedType reservedInterpretation
+reads = refl
+
+reads-unpersisting : answerTo 45 6 (payload 0) ≡ made kinds.FramePacking Taken (message 0) 0
+unfolding answerTo named readingOf whole framePacking arrangement sixFlags gridPositions run elementFront ueAfter uFront from part number bitAt lastOne tailOf setAside reservedId reservedType reservedInterpretation
+reads-unpersisting = refl
+
+abbrev s1 : Slots
+s1 = fedTo (opened start 0 .slots) 0 45 6 (payload 2) .slots
+
+abbrev s2 : Slots
+s2 = fedTo (pictured s1 0 .slots) 0 45 6 (payload 0) .slots
+
+abbrev holds : FramePacking → Held
+holds x = record { «frame_packing» = record { on = 1; value = x }; orientation = noOrientation; equirectangular = noEquirectangular; rotation = noRotation; regions = noPacking }
+
+first-shown : pictured s1 0 .held ≡ holds (message 1)
+unfolding fedTo heldAfter opened pictured start slotAt withSlot holding isOpen freshSlot closedSlot nothing withFramePacking takenFramePacking
+first-shown = rw reads
+
+second-shown : pictured s2 0 .held ≡ holds (message 0)
+unfolding fedTo heldAfter opened pictured start slotAt withSlot holding isOpen freshSlot closedSlot kept nothing withFramePacking takenFramePacking noOrientation noEquirectangular noRotation noPacking keptFramePacking keptOrientation keptEquirectangular keptRotation keptPacking
+second-shown = simp (reads, reads-unpersisting)
+
+then-nothing : pictured (pictured s2 0 .slots) 0 .held ≡ nothing
+unfolding fedTo heldAfter opened pictured start slotAt withSlot holding isOpen freshSlot closedSlot kept nothing withFramePacking takenFramePacking noFramePacking noOrientation noEquirectangular noRotation noPacking keptFramePacking keptOrientation keptEquirectangular keptRotation keptPacking
+then-nothing = simp (reads, reads-unpersisting)

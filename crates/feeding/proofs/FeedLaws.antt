@@ -1,0 +1,171 @@
+-- What the layers above know of a feed: its answer, what it leaves at its slot, that it leaves the others, where it is refused with 8,
+-- and that what is refused, set aside or of a kind that is not held changes no slot.
+-- Assumes nothing.
+use Prim.Native.Nat.{ℕ}
+use native.Mathlib.Omega.{arith}
+use mathlib.Core.Path.{_≡_, refl, sym, ap, _∙_}
+use mathlib.Core.Logic.{_≢_, _↔_, inl, inr}
+use mathlib.Core.Bool.{Bool, true, false}
+use mathlib.Core.List.{List}
+use lib.ListN.{take}
+use lib.Seq.{set-getD}
+use Rattle.bits.specs.Refusals as refusals
+use Rattle.bits.specs.Bits.{bitsOf}
+use Rattle.bits.specs.declared.refusal.Refusal.{Refusal}
+use Rattle.format.specs.Whole.{Reading, taken, setAside, refused}
+use Rattle.format.proofs.Whole as whole
+use Rattle.answers.specs.Listed.{Record, form, named, readingOf}
+use Rattle.answers.specs.Answer.{numberOf, answerFor}
+use Rattle.reader.specs.Reader.{sized, cut, answered, answerTo}
+use Rattle.answers.specs.declared.kind.Kind.{Kind}
+use Rattle.answers.specs.declared.kind.Kind.the-variants as kinds
+use Rattle.answers.specs.declared.kind.Named.{Named}
+use Rattle.answers.specs.declared.kind.Named.the-variants.{Listed, Unlisted}
+use Rattle.answers.specs.declared.Answer.{Answer}
+use Rattle.answers.specs.declared.Outcome.{Outcome}
+use Rattle.answers.specs.declared.Outcome.the-variants.{Taken, SetAside, Refused}
+use Rattle.reader.proofs.Demand2.{one-of, taken-when, aside-when, stopped-when, tail-when}
+use Rattle.reader.proofs.Numbers.{numberIn, Call, call, unlisted, oversized, payload}
+use Rattle.format.specs.Syntax.{if_then_else_}
+use Rattle.slots.specs.Slots.{Eight, slotAt, withSlot, isOpen, holding, replaced}
+use Rattle.held.specs.declared.Held.{Held}
+use Rattle.slots.specs.declared.Slot.{Slot}
+use Rattle.slots.specs.declared.Slots.{Slots}
+use Rattle.slots.proofs.Laws.{ButFor, Shut, shut-past, replaced-slots, replaced-there, replaced-but-for}
+use Rattle.feeding.specs.declared.Fed.{Fed}
+use Rattle.feeding.specs.Feed.{heldBy, heldAfter, shutAs, shutAnswer, fedTo}
+
+-- ---- what leaves the held records
+
+-- only what is taken changes them
+pub untaken-keeps : (h : Held) (a : Answer) → a .outcome ≢ Taken → heldAfter h a ≡ h
+unfolding heldAfter
+untaken-keeps h a = go (a .outcome)
+  where
+    go : (o : Outcome) → o ≢ Taken → heldBy h o (a .message) (a .regions) ≡ h
+    go Taken d = absurd (d refl)
+    go SetAside d = refl
+    go (Refused r) d = refl
+
+-- kinds 165, 177, 4 and 5 are read and not held
+pub data Unheld : Kind → Type 0 where
+  alpha : Unheld kinds.Alpha
+  depth : Unheld kinds.Depth
+  registered : Unheld kinds.Registered
+  unregistered : Unheld kinds.Unregistered
+
+pub unheld-keeps : (h : Held) (k : Kind) (x : Reading (Record k)) → Unheld k → heldAfter h (answerFor k x) ≡ h
+unfolding heldAfter
+unheld-keeps h k (setAside a e) u = refl
+unheld-keeps h k (refused r) u = refl
+unheld-keeps h k (taken a e) alpha = refl
+unheld-keeps h k (taken a e) depth = refl
+unheld-keeps h k (taken a e) registered = refl
+unheld-keeps h k (taken a e) unregistered = refl
+
+-- ---- the number 8
+
+shut-number : (x : Named) → numberOf (shutAs x) ≡ 8
+shut-number (Listed k) = refl
+shut-number Unlisted = refl
+
+pub shut-8 : (kind : ℕ) → numberOf (shutAnswer kind) ≡ 8
+unfolding shutAnswer
+shut-8 kind = shut-number (named kind)
+
+of-element : (r : Refusal) → whole.OfElement r → refusals.numberOf r ≡ 8 → ⊥
+of-element r whole.short e = omega arith
+of-element r whole.zeros e = omega arith
+of-element r whole.rule e = omega arith
+of-element r whole.regions e = omega arith
+
+-- no payload is answered 8
+payload-not-8 : (k : Kind) (s : List ℕ) → numberIn (readingOf k s) ≡ 8 → ⊥
+payload-not-8 k s h = go (one-of k s)
+  where
+    stays : (x : Reading (Record k)) → readingOf k s ≡ x → numberIn x ≡ 8
+    stays x e = ap numberIn (sym e) ∙ h
+
+    go : whole.Seen (form k) (bitsOf s) → ⊥
+    go (whole.holds a e d) = at (form k .aside a) refl
+      where
+        at : (b : Bool) → form k .aside a ≡ b → ⊥
+        at true q = omega (arith, stays (setAside a e) (aside-when k s a e .1 (d, q)))
+        at false q = omega (arith, stays (taken a e) (taken-when k s a e .1 (d, q)))
+    go (whole.stops r d) =
+        let o = whole.stopped-which (form k .table) (bitsOf s) r d in
+        of-element r o (stays (refused r) (stopped-when k s r o .1 d))
+    go (whole.tail d) = omega (arith, stays (refused _) (tail-when k s .1 d))
+
+-- and so no reading
+pub answer-not-8 : (kind size : ℕ) (bytes : List ℕ) → numberOf (answerTo kind size bytes) ≡ 8 → ⊥
+answer-not-8 kind size bytes h = go (call kind size bytes)
+  where
+    go : Call kind size bytes → ⊥
+    go (unlisted e m) = omega arith
+    go (oversized k e c m) = omega arith
+    go (payload k e b c m) = payload-not-8 k (take size bytes) (sym m ∙ h)
+
+-- ---- a feed replaces an open slot by what is left of it
+
+same-slot : (s : Slots) (n : ℕ) → withSlot s n (holding (slotAt s n) (slotAt s n .held)) ≡ s
+unfolding withSlot slotAt holding
+same-slot s n = ap (λ xs. record { slots = xs }) (set-getD (s .slots) n _)
+
+pub if-ap : {A B : Type 0} (f : A → B) (b : Bool) (x y : A) → f (if b then x else y) ≡ (if b then f x else f y)
+if-ap f true x y = refl
+if-ap f false x y = refl
+
+module _ (s : Slots) (n kind size : ℕ) (bytes : List ℕ) where
+  abbrev pub left : Slot
+  left = holding (slotAt s n) (heldAfter (slotAt s n .held) (answerTo kind size bytes))
+
+  pub fed-answer : fedTo s n kind size bytes .answer ≡ (if isOpen (slotAt s n) then answerTo kind size bytes else shutAnswer kind)
+  unfolding fedTo
+  fed-answer = if-ap (λ (r : Fed). r .answer) (isOpen (slotAt s n)) _ _
+
+  pub fed-slots : fedTo s n kind size bytes .slots ≡ replaced s n left .slots
+  unfolding fedTo
+  fed-slots = if-ap (λ (r : Fed). r .slots) (isOpen (slotAt s n)) _ _ ∙ sym (replaced-slots s n left)
+
+  pub fed-there : Eight s → slotAt (fedTo s n kind size bytes .slots) n ≡ (if isOpen (slotAt s n) then left else slotAt s n)
+  fed-there e = rw fed-slots (replaced-there s n left e)
+
+  -- no other slot changes, and there are eight still
+  pub fed-but-for : ButFor n s (fedTo s n kind size bytes .slots)
+  fed-but-for = rw fed-slots (replaced-but-for s n left)
+
+  -- 8 exactly where there is no such slot or it is closed
+  pub fed-8 : Eight s → (numberOf (fedTo s n kind size bytes .answer) ≡ 8) ↔ Shut s n
+  fed-8 e = rw fed-answer (go (isOpen (slotAt s n)) refl)
+    where
+      go : (b : Bool) → isOpen (slotAt s n) ≡ b → (numberOf (if b then answerTo kind size bytes else shutAnswer kind) ≡ 8) ↔ Shut s n
+      go true o = (λ h. absurd (answer-not-8 kind size bytes h), λ h. absurd (never h))
+        where
+          off : isOpen (slotAt s n) ≡ false → ⊥
+          off f = let z : _≡_ {A = ℕ} 0 1 = cc in omega arith
+
+          never : Shut s n → ⊥
+          never (inl l) = off (shut-past s n e l)
+          never (inr f) = off f
+      go false o = (λ h. inr o, λ h. shut-8 kind)
+
+  keeps : heldAfter (slotAt s n .held) (answerTo kind size bytes) ≡ slotAt s n .held → fedTo s n kind size bytes .slots ≡ s
+  keeps k = fed-slots ∙ replaced-slots s n left ∙ go (isOpen (slotAt s n))
+    where
+      go : (b : Bool) → (if b then withSlot s n left else s) ≡ s
+      go true = rw k (same-slot s n)
+      go false = refl
+
+  -- what is refused or set aside changes no slot
+  pub fed-untaken : fedTo s n kind size bytes .answer .outcome ≢ Taken → fedTo s n kind size bytes .slots ≡ s
+  fed-untaken d = go (isOpen (slotAt s n)) refl
+    where
+      go : (b : Bool) → isOpen (slotAt s n) ≡ b → fedTo s n kind size bytes .slots ≡ s
+      go true o = keeps (untaken-keeps _ _ (λ t. d (ap (λ (a : Answer). a .outcome) (rw o at fed-answer) ∙ t)))
+      go false o = fed-slots ∙ replaced-slots s n left ∙ rw o
+
+  -- nor does any payload of kind 4, 5, 165 or 177, whatever it is answered
+  pub fed-unheld : (k : Kind) → named kind ≡ Listed k → Unheld k → fedTo s n kind size bytes .slots ≡ s
+  unfolding answerTo
+  fed-unheld k e u = keeps (ap (λ x. heldAfter (slotAt s n .held) (answered x size bytes)) e ∙ unheld-keeps _ k (cut k (sized size bytes) size bytes) u)

@@ -1,0 +1,3 @@
+pub mod FeedLaws
+pub mod Determined
+mod Examples

@@ -1,0 +1,81 @@
+// A payload goes into a slot.
+use answers::Answer;
+use answers::Message;
+use answers::Outcome;
+use answers::kind::Named;
+use bits::refusal::Refusal;
+use held::Held;
+use reader::payload;
+use regions::Packing;
+use slots::Slots;
+ghost use mathlib.Core.Path.{_≡_};
+ghost use Rattle.feeding.specs.Feed.{heldWith, heldBy, shutAnswer, fedTo};
+
+// What a taken message leaves of the held records; the record of kind 155 stands beside its message.
+fn held_with(held: Held, message: Message, regions: Packing) -> Held
+    ensures { λ r. ⌜ r ≡ heldWith held message regions ⌝ }
+{
+    match message {
+        Message::FramePacking(x) => held.with_frame_packing(x),
+        Message::Orientation(x) => held.with_orientation(x),
+        Message::Equirectangular(x) => held.with_equirectangular(x),
+        Message::Rotation(x) => held.with_rotation(x),
+        Message::RegionWise => held.with_regions(regions),
+        Message::Alpha(_) => held,
+        Message::Depth => held,
+        Message::Registered(_) => held,
+        Message::Unregistered => held,
+        Message::Nothing => held,
+    }
+}
+
+// What an answer leaves of them, by its outcome: only a taken message changes them.
+fn held_by(held: Held, outcome: Outcome, message: Message, regions: Packing) -> Held
+    ensures { λ r. ⌜ r ≡ heldBy held outcome message regions ⌝ }
+{
+    match outcome {
+        Outcome::Taken => held_with(held, message, regions),
+        Outcome::SetAside => held,
+        Outcome::Refused(_) => held,
+    }
+}
+
+// Refusal 8, with the zeros of the kind asked for, if it is one of the nine.
+fn shut(kind: u64) -> Answer
+    ensures { λ r. ⌜ r ≡ shutAnswer kind ⌝ }
+{
+    let named = Named::by(kind);
+    let Named::Listed(k) = named else {
+        return Answer::plain(Outcome::Refused(Refusal::slot()), Message::Nothing, 0);
+    };
+    Answer::refused(k, Refusal::slot())
+}
+
+// The reader's answer, and the slots after it.
+pub struct Fed {
+    pub answer: Answer,
+    pub slots: Slots,
+}
+
+// The slot is judged before anything is read.
+pub fn feed(slots: Slots, n: u64, kind: u64, size: u64, bytes: &[u8]) -> Fed
+    ensures { λ r. ⌜ r ≡ fedTo slots n kind size (now (bytes .entry)) ⌝ }
+{
+    let here = slots.slot(n);
+    if here.is_open() {
+        let answer = payload::read(kind, size, bytes);
+        let held = here.held;
+        let outcome = answer.outcome;
+        let message = answer.message;
+        let regions = answer.regions;
+        let left = held_by(held, outcome, message, regions);
+        return Fed {
+            answer,
+            slots: slots.with(n, here.holding(left)),
+        };
+    }
+    Fed {
+        answer: shut(kind),
+        slots,
+    }
+}

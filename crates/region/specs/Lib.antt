@@ -1,0 +1,4 @@
+pub mod Projected
+pub mod Packed
+pub mod Bands
+pub mod Region

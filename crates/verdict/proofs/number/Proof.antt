@@ -1,0 +1,63 @@
+-- `verdict::number` meets its contract: 1, then 2, then what the payload comes to.
+-- Assumes nothing.
+use mathlib.Core.Path.{sym, ap, _∙_}
+use native.Mathlib.Omega.{arith}
+use denote.Ref.{now}
+use lib.ListN.{length-take}
+use Rattle.bits.specs.Refusals as refusals
+use Rattle.answers.specs.Answer.{outcomeNumber, numberOf}
+use Rattle.reader.proofs.ByEntry.{when-unlisted, when-oversized, when-payload}
+use Rattle.verdict.proofs.number.Statement.{statement}
+use Rattle.verdict.proofs.number.Tie as tie
+
+returns : tie.Need-returns
+returns c =
+    let told = c .before .before in
+    c .number .ensures ∙ ap refusals.numberOf (c .before .kind .ensures)
+    ∙ sym (ap numberOf (when-unlisted _ _ _ (told .before .before .judged .ensures) (told .enum-told .given .1)))
+
+returns-2 : tie.Need-returns-2
+returns-2 c =
+    let told = c .before .before in
+    c .number2 .ensures ∙ ap refusals.numberOf (c .before .size .ensures)
+    ∙ sym (ap numberOf (when-oversized _ _ _ (told .before .before .judged .ensures) (told .enum-told2 .given .1)))
+
+front-requires : tie.Need-front-requires
+front-requires c κs =
+    let told = c .before in
+    let args = told .before .before .before .before .args in
+    let fits = when-payload (args .kind) (args .size) (now (args .bytes)) (told .before .before .judged .ensures) (told .entry .given .1) .1 in
+    omega (arith, fits)
+
+outcome-of-requires : tie.Need-outcome-of-requires
+outcome-of-requires c κs =
+    let told = c .before .before in
+    let args = told .before .before .before .before .args in
+    let fits = when-payload (args .kind) (args .size) (now (args .bytes)) (told .before .before .judged .ensures) (told .entry .given .1) .0 in
+    rw (c .front .ensures) (rw (length-take) (omega (arith, fits)))
+
+returns-3 : tie.Need-returns-3
+returns-3 c =
+    let told = c .before .before .before .before in
+    c .number3 .ensures
+    ∙ rw (c .before .outcome-of .ensures, c .before .before .front .ensures)
+    (sym (ap numberOf (when-payload _ _ _ (told .before .before .judged .ensures) (told .entry .given .1) .2)))
+
+pub number-spec : {M : Type 1} → statement M
+number-spec =
+    tie.close
+    (tie.spec
+    (λ c κs. tt)
+    (λ c. c .match .keys1)
+    (λ c κs. tt)
+    (λ c κs. tt)
+    (λ c. c .match .keys2)
+    (λ c κs. tt)
+    (λ c κs. tt)
+    (λ c. c .match .keys3)
+    front-requires
+    outcome-of-requires
+    (λ c κs. tt)
+    returns
+    returns-2
+    returns-3)
