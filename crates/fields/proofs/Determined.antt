@@ -1,11 +1,7 @@
--- Each public contract determines its result, and the lent row as it leaves it.
+-- Each public contract determines its result.
 -- Assumes nothing.
-use Prim.Native.Nat.{ℕ}
-use mathlib.Core.Path.{_≡_, sym, ap, _∙_}
-use mathlib.Core.List.{List}
-use denote.Ref.{now}
-use Rattle.bits.proofs.Determined.{Determines, DeterminesAll}
-use Rattle.fields.specs.Fields.{Written, written}
+use mathlib.Core.Path.{sym, _∙_}
+use Rattle.bits.proofs.Determined.{Determines}
 use Rattle.fields.proofs.record.frame_packing.Kinds as frame-packing-kinds
 use Rattle.fields.proofs.record.frame_packing.Reads as frame-packing-reads
 use Rattle.fields.proofs.record.orientation.Kinds as orientation-kinds
@@ -16,10 +12,14 @@ use Rattle.fields.proofs.record.rotation.Kinds as rotation-kinds
 use Rattle.fields.proofs.record.rotation.Reads as rotation-reads
 use Rattle.fields.proofs.record.packing.Kinds as packing-kinds
 use Rattle.fields.proofs.record.packing.Reads as packing-reads
-use Rattle.fields.proofs.handing.hand_out.Kinds as hand-out-kinds
-use Rattle.fields.proofs.handing.hand_out.Reads as hand-out-reads
-use Rattle.fields.proofs.write.Kinds as write-kinds
-use Rattle.fields.proofs.write.Reads as write-reads
+use Rattle.fields.proofs.record.alpha.Kinds as alpha-kinds
+use Rattle.fields.proofs.record.alpha.Reads as alpha-reads
+use Rattle.fields.proofs.record.depth.Kinds as depth-kinds
+use Rattle.fields.proofs.record.depth.Reads as depth-reads
+use Rattle.fields.proofs.record.registered.Kinds as registered-kinds
+use Rattle.fields.proofs.record.registered.Reads as registered-reads
+use Rattle.fields.proofs.record.unregistered.Kinds as unregistered-kinds
+use Rattle.fields.proofs.record.unregistered.Reads as unregistered-reads
 
 pub frame-packing-determined : Determines 0 frame-packing-kinds.ps frame-packing-kinds.r frame-packing-reads.Post
 frame-packing-determined κs a x y s t p q = p ∙ sym q
@@ -36,13 +36,14 @@ rotation-determined κs a x y s t p q = p ∙ sym q
 pub packing-determined : Determines 0 packing-kinds.ps packing-kinds.r packing-reads.Post
 packing-determined κs a x y s t p q = p ∙ sym q
 
--- of both a number and a row
-same : {m n : ℕ} {k l : List ℕ} → written m k ≡ written n l → (m ≡ n) × (k ≡ l)
-same e = (ap (λ (o : Written). o .number) e, ap (λ (o : Written). o .row) e)
+pub alpha-determined : Determines 0 alpha-kinds.ps alpha-kinds.r alpha-reads.Post
+alpha-determined κs a x y s t p q = p ∙ sym q
 
--- the row is the first parameter, and the second of `write`
-pub hand-out-determined : DeterminesAll 1 hand-out-kinds.ps hand-out-kinds.r (λ κs s. now (s .0)) hand-out-reads.Post
-hand-out-determined κs a x y s t p q = same (p ∙ sym q)
+pub depth-determined : Determines 0 depth-kinds.ps depth-kinds.r depth-reads.Post
+depth-determined κs a x y s t p q = p ∙ sym q
 
-pub write-determined : DeterminesAll 1 write-kinds.ps write-kinds.r (λ κs s. now (s .1 .0)) write-reads.Post
-write-determined κs a x y s t p q = same (p ∙ sym q)
+pub registered-determined : Determines 0 registered-kinds.ps registered-kinds.r registered-reads.Post
+registered-determined κs a x y s t p q = p ∙ sym q
+
+pub unregistered-determined : Determines 0 unregistered-kinds.ps unregistered-kinds.r unregistered-reads.Post
+unregistered-determined κs a x y s t p q = p ∙ sym q

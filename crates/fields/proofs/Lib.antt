@@ -1,4 +1,3 @@
 mod RowLaws
 mod Filled
-mod Outcomes
 pub mod Determined

@@ -1,17 +1,15 @@
--- Runs of stores into a list, and what they leave of a lent row.
+-- Runs of stores into a list.
 -- Assumes nothing.
-use Prim.Native.Nat.{ℕ, _+_, _*_, _≤_, _<_}
+use Prim.Native.Nat.{ℕ, _+_, _*_, _<_}
 use mathlib.Core.Path.{_≡_, refl, sym, ap, _∙_}
 use mathlib.Core.List.{List, [], _∷_, _++_, append-assoc, append-nil}
-use native.Mathlib.Nat.{zero-add}
 use native.Mathlib.Numerals.{add-one}
 use native.Mathlib.Omega.{arith}
-use borrow.Author.Tests.{le-leb, lt-leb}
 use lib.ListN.{length, getD, take, drop, replicate, length-replicate, drop-of-length-le}
 use lib.Seq.{sets, sets-eq, take-suc, length-take-le}
 use Rattle.region.specs.declared.Region.{Region}
 use Rattle.lent.proofs.Stores.{sets-append}
-use Rattle.fields.specs.Fields.{regionFields, regionsFields, written, handed}
+use Rattle.fields.specs.Fields.{regionFields, regionsFields}
 
 -- zeros, all written over
 pub filled : (n : ℕ) (xs q : List ℕ) → length xs ≡ n → q ≡ sets (replicate n 0) 0 xs → q ≡ xs
@@ -45,15 +43,3 @@ fields-more l rs at i d h =
     let n : length (regionsFields (take i rs)) ≡ 19 * i = fields-length (take i rs) ∙ ap (λ (k : ℕ). 19 * k) (length-take-le i rs (omega arith)) in
     let two = sets-append (regionsFields (take i rs)) (regionFields (getD rs i d)) l at in
     sym (rw (add-one, take-suc rs i d h, fields-append, two, n))
-
--- ---- what is left of the lent row l
-
-pub few : (n : ℕ) (xs l : List ℕ) → length l < length xs → written 10 l ≡ handed n xs l
-unfolding handed
-few n xs l h = simp (lt-leb _ _ h)
-
-pub fitting : (n : ℕ) (xs l : List ℕ) → length xs ≤ length l → written n (sets l 0 xs) ≡ handed n xs l
-unfolding handed
-fitting n xs l h =
-    let front : sets l 0 xs ≡ xs ++ drop (length xs) l = rw (sets-eq xs l 0 (omega arith), zero-add) in
-    simp (le-leb _ _ h, front)

@@ -108,7 +108,7 @@ pub fn rotation(extension: u32, a: Rotation) -> [u64; 9]
     ]
 }
 
-pub(crate) fn alpha(extension: u32, a: Alpha) -> [u64; 9]
+pub fn alpha(extension: u32, a: Alpha) -> [u64; 9]
     ensures { λ r. ⌜ r ≡ extension ∷ alphaFields a ⌝ }
 {
     [
@@ -124,7 +124,7 @@ pub(crate) fn alpha(extension: u32, a: Alpha) -> [u64; 9]
     ]
 }
 
-pub(crate) fn registered(extension: u32, a: Registered) -> [u64; 3]
+pub fn registered(extension: u32, a: Registered) -> [u64; 3]
     ensures { λ r. ⌜ r ≡ extension ∷ registeredFields a ⌝ }
 {
     [
@@ -187,7 +187,7 @@ fn put_value(row: &mut [u64], at: usize, a: DepthValue)
     put(row, at, &fields);
 }
 
-pub(crate) fn depth(extension: u32, a: Depth) -> [u64; 95]
+pub fn depth(extension: u32, a: Depth) -> [u64; 95]
     ensures { λ r. ⌜ r ≡ extension ∷ depthFields a ⌝ }
 {
     let z_near = a.z_near;
@@ -216,7 +216,7 @@ pub(crate) fn depth(extension: u32, a: Depth) -> [u64; 95]
     r
 }
 
-pub(crate) fn unregistered(extension: u32, a: Unregistered) -> [u64; 17]
+pub fn unregistered(extension: u32, a: Unregistered) -> [u64; 17]
     ensures { λ r. ⌜ r ≡ extension ∷ a .identifier ⌝ }
 {
     let identifier = a.identifier;

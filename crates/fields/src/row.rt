@@ -1,13 +1,9 @@
-// The lent row: the room is judged first, and then the numbers are written over its front.
-use bits::refusal::Refusal;
-use lent::put;
+// Narrower numbers in a row, at `at` and after it: the identifier of kind 5, and the list of kind 177.
 ghost use mathlib.Core.Path.{_≡_};
 ghost use Prim.Native.Nat.{_+_, _≤_};
 ghost use lib.ListN.{length};
 ghost use lib.Seq.{sets};
-ghost use Rattle.fields.specs.Fields.{written, handed};
 
-// Narrower numbers, at `at` and after it: the identifier of kind 5, and the list of kind 177.
 pub(crate) fn put_identifier(row: &mut [u64], at: usize, from: [u8; 16])
     requires { ⌜ at + 16 ≤ length (now row) ⌝ }
     ensures { λ _. ⌜ now (row .exit) ≡ sets (now (row .entry)) at from ⌝ }
@@ -40,15 +36,4 @@ fn word(x: u16) -> u64
     ensures { λ r. ⌜ r ≡ x ⌝ }
 {
     x as u64
-}
-
-// The fields, all or none: the number is then 10.
-pub(crate) fn hand(row: &mut [u64], number: u32, fields: &[u64]) -> u32
-    ensures { λ r. ⌜ written r (now (row .exit)) ≡ handed number (now (fields .entry)) (now (row .entry)) ⌝ }
-{
-    if row.len() < fields.len() {
-        return Refusal::rows().number();
-    }
-    put(row, 0, fields);
-    number
 }

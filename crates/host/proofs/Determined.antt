@@ -8,7 +8,7 @@ use denote.Ref.{now}
 use denote.Triple.Clauses.{AtExit}
 use borrow.Fn.Kinds.{endedOf}
 use Rattle.bits.proofs.Determined.{Determines, DeterminesAll}
-use Rattle.fields.specs.Fields.{Written}
+use Rattle.handing.specs.Handing.{Written}
 use Rattle.host.specs.Slot.{Outcome}
 use Rattle.host.proofs.bruskelde_read.Kinds as read-kinds
 use Rattle.host.proofs.bruskelde_read.Reads as read-reads

@@ -18,7 +18,7 @@ use Rattle.rotation.specs.Rotation.{angleIn, rotation}
 use Rattle.user_data.specs.Registered.{registered}
 use Rattle.answers.specs.Listed.{named, readingOf}
 use Rattle.reader.specs.Reader.{answerTo}
-use Rattle.fields.specs.Fields.{Written, written, wrote, handed, fieldsOf}
+use Rattle.handing.specs.Handing.{Written, written, wrote, handed, fieldsOf}
 use Rattle.host.specs.Part.{partOf}
 
 -- a payload of a kind, and a row of n numbers 7

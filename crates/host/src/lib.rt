@@ -7,7 +7,7 @@ use verdict::number;
 ghost use mathlib.Core.Path.{_≡_};
 ghost use Rattle.answers.specs.Answer.{numberOf};
 ghost use Rattle.reader.specs.Reader.{answerTo};
-ghost use Rattle.fields.specs.Fields.{written, wrote};
+ghost use Rattle.handing.specs.Handing.{written, wrote};
 ghost use Rattle.host.specs.Part.{partOf};
 
 // The number of the answer, for any kind, size and bytes.
@@ -24,7 +24,7 @@ pub extern "C" fn bruskelde_fields(kind: u64, size: u64, bytes: &[u8], row: &mut
     ensures { λ r. ⌜ written r (now (row .exit)) ≡ wrote (answerTo kind size (now (bytes .entry))) (now (row .entry)) ⌝ }
 {
     let answer = read(kind, size, bytes);
-    fields::write(answer, row)
+    handing::write(answer, row)
 }
 
 // A part of the lent bytes, by its first byte and how many there are.

@@ -12,7 +12,7 @@ use crate::style::Style;
 use crate::user_names::registered;
 use crate::user_names::unregistered;
 use answers::Answer;
-use fields::handing::hand_out;
+use handing::hand_out;
 
 // The row of a kind; part is what follows the head of kinds 4 and 5.
 pub fn record(style: Style, kind: u64, row: &[u64], part: &[u8]) {

@@ -1,9 +1,9 @@
--- `fields::write` meets its contract: what is refused is not handed out.
+-- `handing::write` meets its contract: what is refused is not handed out.
 -- Assumes nothing.
 use borrow.Author.Needs.{needs}
-use Rattle.fields.proofs.Outcomes.{by-taken, by-aside, by-refused}
-use Rattle.fields.proofs.write.Statement.{statement}
-use Rattle.fields.proofs.write.Tie as tie
+use Rattle.handing.proofs.HandingLaws.{by-taken, by-aside, by-refused}
+use Rattle.handing.proofs.write.Statement.{statement}
+use Rattle.handing.proofs.write.Tie as tie
 
 returns : tie.Need-returns
 returns c =

@@ -1,10 +1,23 @@
-// An answer's fields, handed out to a lent row.
-use crate::record;
-use crate::row::hand;
+// An answer's fields, handed out to a lent row, for callers that have no records.
 use answers::Answer;
 use answers::Message;
+use answers::Outcome;
+use bits::refusal::Refusal;
+use fields::record;
+use lent::put;
 ghost use mathlib.Core.Path.{_≡_};
-ghost use Rattle.fields.specs.Fields.{written, handed, fieldsOf};
+ghost use Rattle.handing.specs.Handing.{written, handed, fieldsOf, wrote};
+
+// The room is judged first, and then all fields are written or none: the number is then 10.
+fn hand(row: &mut [u64], number: u32, fields: &[u64]) -> u32
+    ensures { λ r. ⌜ written r (now (row .exit)) ≡ handed number (now (fields .entry)) (now (row .entry)) ⌝ }
+{
+    if row.len() < fields.len() {
+        return Refusal::rows().number();
+    }
+    put(row, 0, fields);
+    number
+}
 
 pub fn hand_out(row: &mut [u64], number: u32, a: Answer) -> u32
     ensures { λ r. ⌜ written r (now (row .exit)) ≡ handed number (fieldsOf a) (now (row .entry)) ⌝ }
@@ -52,5 +65,18 @@ pub fn hand_out(row: &mut [u64], number: u32, a: Answer) -> u32
             let fields = record::unregistered(extension, a.unregistered);
             hand(row, number, &fields)
         }
+    }
+}
+
+// The fields of what was taken or set aside, written over the front of the row; 10 where they do not fit.
+pub fn write(a: Answer, row: &mut [u64]) -> u32
+    ensures { λ r. ⌜ written r (now (row .exit)) ≡ wrote a (now (row .entry)) ⌝ }
+{
+    let outcome = a.outcome;
+    let number = outcome.number();
+    match outcome {
+        Outcome::Taken => hand_out(row, number, a),
+        Outcome::SetAside => hand_out(row, number, a),
+        Outcome::Refused(_) => number,
     }
 }

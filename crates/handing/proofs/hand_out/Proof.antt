@@ -1,10 +1,10 @@
--- `fields::handing::hand_out` meets its contract: each kind's fields are built and then handed over.
+-- `handing::hand_out` meets its contract: each kind's fields are built and then handed over.
 -- Assumes nothing.
 use mathlib.Core.Path.{refl}
 use borrow.Author.Needs.{needs}
-use Rattle.fields.proofs.Outcomes.{by-message}
-use Rattle.fields.proofs.handing.hand_out.Statement.{statement}
-use Rattle.fields.proofs.handing.hand_out.Tie as tie
+use Rattle.handing.proofs.HandingLaws.{by-message}
+use Rattle.handing.proofs.hand_out.Statement.{statement}
+use Rattle.handing.proofs.hand_out.Tie as tie
 
 returns : tie.Need-returns
 returns c =

@@ -1,4 +1,4 @@
--- `fields::row::hand` meets its contract: the room is judged before anything is written.
+-- `handing::hand` meets its contract: the room is judged before anything is written.
 -- Assumes nothing.
 use Prim.Native.Nat.{_≤_, _<_}
 use mathlib.Core.Path.{ap, _∙_}
@@ -6,9 +6,9 @@ use native.Mathlib.Omega.{arith}
 use borrow.Author.Needs.{needs}
 use lib.ListN.{length}
 use Rattle.bits.specs.Refusals.{numberOf}
-use Rattle.fields.proofs.RowLaws.{few, fitting}
-use Rattle.fields.proofs.row.hand.Statement.{statement}
-use Rattle.fields.proofs.row.hand.Tie as tie
+use Rattle.handing.proofs.HandingLaws.{few, fitting}
+use Rattle.handing.proofs.hand.Statement.{statement}
+use Rattle.handing.proofs.hand.Tie as tie
 
 returns : tie.Need-returns
 returns c =

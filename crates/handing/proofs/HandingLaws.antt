@@ -1,15 +1,31 @@
--- What is handed out, by the message and by the outcome of an answer.
+-- What is handed out, by the room, and by the message and the outcome of an answer.
 -- Assumes nothing.
-use Prim.Native.Nat.{ℕ}
+use Prim.Native.Nat.{ℕ, _≤_, _<_}
 use mathlib.Core.Path.{_≡_, sym, ap, _∙_}
-use mathlib.Core.List.{List, _∷_}
+use mathlib.Core.List.{List, _∷_, _++_}
+use native.Mathlib.Nat.{zero-add}
+use native.Mathlib.Omega.{arith}
+use borrow.Author.Tests.{le-leb, lt-leb}
+use lib.ListN.{length, drop}
+use lib.Seq.{sets, sets-eq}
 use Rattle.bits.specs.declared.refusal.Refusal.{Refusal}
 use Rattle.answers.specs.Answer.{numberOf}
 use Rattle.answers.specs.declared.Answer.{Answer}
 use Rattle.answers.specs.declared.Outcome.{Outcome}
 use Rattle.answers.specs.declared.Outcome.the-variants.{Taken, SetAside, Refused}
 use Rattle.answers.specs.declared.Message.{Message}
-use Rattle.fields.specs.Fields.{Written, recordFields, fieldsOf, written, handed, wroteBy, wrote}
+use Rattle.handing.specs.Handing.{Written, recordFields, fieldsOf, written, handed, wroteBy, wrote}
+
+-- the lent row l, too short for xs or not
+pub few : (n : ℕ) (xs l : List ℕ) → length l < length xs → written 10 l ≡ handed n xs l
+unfolding handed
+few n xs l h = simp (lt-leb _ _ h)
+
+pub fitting : (n : ℕ) (xs l : List ℕ) → length xs ≤ length l → written n (sets l 0 xs) ≡ handed n xs l
+unfolding handed
+fitting n xs l h =
+    let front : sets l 0 xs ≡ xs ++ drop (length xs) l = rw (sets-eq xs l 0 (omega arith), zero-add) in
+    simp (le-leb _ _ h, front)
 
 -- xs are the fields of a, whose message is m
 pub by-message : (n : ℕ) (a : Answer) (m : Message) (xs l : List ℕ) {o : Written} → a .message ≡ m → xs ≡ a .extension ∷ recordFields a m

@@ -1,0 +1,2 @@
+mod HandingLaws
+pub mod Determined
