@@ -2,8 +2,7 @@
 use Prim.Native.Nat.{ℕ, _+_, _^_}
 use mathlib.Core.Bool.{Bool, cond, _&&_}
 use mathlib.Core.List.{List, [], _∷_, _++_}
-use lib.Dec.{ltb, leb}
-use lib.ListN.{length, drop}
+use lib.Dec.{ltb}
 use Rattle.bits.specs.Signed.{twosOf}
 use Rattle.frame_packing.specs.declared.FramePacking.{FramePacking}
 use Rattle.orientation.specs.declared.Orientation.{Orientation}
