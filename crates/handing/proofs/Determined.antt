@@ -15,9 +15,9 @@ use Rattle.handing.proofs.write.Reads as write-reads
 same : {m n : ℕ} {k l : List ℕ} → written m k ≡ written n l → (m ≡ n) × (k ≡ l)
 same e = (ap (λ (o : Written). o .number) e, ap (λ (o : Written). o .row) e)
 
--- the row is the first parameter, and the second of `write`
+-- the row is the first parameter
 pub hand-out-determined : DeterminesAll 1 hand-out-kinds.ps hand-out-kinds.r (λ κs s. now (s .0)) hand-out-reads.Post
 hand-out-determined κs a x y s t p q = same (p ∙ sym q)
 
-pub write-determined : DeterminesAll 1 write-kinds.ps write-kinds.r (λ κs s. now (s .1 .0)) write-reads.Post
+pub write-determined : DeterminesAll 1 write-kinds.ps write-kinds.r (λ κs s. now (s .0)) write-reads.Post
 write-determined κs a x y s t p q = same (p ∙ sym q)

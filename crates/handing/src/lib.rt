@@ -69,7 +69,7 @@ pub fn hand_out(row: &mut [u64], number: u32, a: Answer) -> u32
 }
 
 // The fields of what was taken or set aside, written over the front of the row; 10 where they do not fit.
-pub fn write(a: Answer, row: &mut [u64]) -> u32
+pub fn write(row: &mut [u64], a: Answer) -> u32
     ensures { λ r. ⌜ written r (now (row .exit)) ≡ wrote a (now (row .entry)) ⌝ }
 {
     let outcome = a.outcome;

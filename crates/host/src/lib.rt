@@ -24,7 +24,7 @@ pub extern "C" fn bruskelde_fields(kind: u64, size: u64, bytes: &[u8], row: &mut
     ensures { λ r. ⌜ written r (now (row .exit)) ≡ wrote (answerTo kind size (now (bytes .entry))) (now (row .entry)) ⌝ }
 {
     let answer = read(kind, size, bytes);
-    handing::write(answer, row)
+    handing::write(row, answer)
 }
 
 // A part of the lent bytes, by its first byte and how many there are.
