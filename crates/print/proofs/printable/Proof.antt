@@ -1,10 +1,10 @@
--- `show::text::hex` is safe and ends.
+-- `print::printable` is safe and ends.
 -- Assumes nothing.
 use Prim.Native.Nat.{_≤_, _-_}
 use lib.ListN.{length}
 use borrow.Author.Needs.{needs}
-use Rattle.show.proofs.text.hex.Statement.{statement}
-use Rattle.show.proofs.text.hex.Tie as tie
+use Rattle.print.proofs.printable.Statement.{statement}
+use Rattle.print.proofs.printable.Tie as tie
 
 abbrev Inv-loop : tie.InvT-loop
 Inv-loop s i₀ i = i ≤ length s
@@ -12,8 +12,8 @@ Inv-loop s i₀ i = i ≤ length s
 abbrev μ-loop : tie.MeasureT-loop
 μ-loop s i₀ i = length s - i
 
-pub hex-spec : {M : Type 1} → statement M
-hex-spec =
+pub printable-spec : {M : Type 1} → statement M
+printable-spec =
     tie.close
     (tie.spec
     Inv-loop
@@ -21,6 +21,7 @@ hex-spec =
     (λ c. search needs)
     (λ c. search needs)
     (λ c κs. search needs)
+    (λ c. search needs)
     (λ c κs. search needs)
     (λ c. search needs)
     (λ c. search needs)

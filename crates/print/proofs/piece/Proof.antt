@@ -1,10 +1,10 @@
--- `show::scan::piece` is safe and ends.
+-- `print::piece` is safe and ends.
 -- Assumes nothing.
 use Prim.Native.Nat.{_≤_, _-_}
 use lib.ListN.{length}
 use borrow.Author.Needs.{needs}
-use Rattle.show.proofs.scan.piece.Statement.{statement}
-use Rattle.show.proofs.scan.piece.Tie as tie
+use Rattle.print.proofs.piece.Statement.{statement}
+use Rattle.print.proofs.piece.Tie as tie
 
 abbrev Inv-loop : tie.InvT-loop
 Inv-loop s n at₀ left₀ end₀ at left end = (at ≤ end) × (end ≤ length s)

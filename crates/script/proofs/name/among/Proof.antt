@@ -1,10 +1,10 @@
--- `desk::call::among` is safe and ends.
+-- `script::name::among` is safe and ends.
 -- Assumes nothing.
 use Prim.Native.Nat.{_≤_, _-_}
 use lib.ListN.{length}
 use borrow.Author.Needs.{needs}
-use Rattle.desk.proofs.call.among.Statement.{statement}
-use Rattle.desk.proofs.call.among.Tie as tie
+use Rattle.script.proofs.name.among.Statement.{statement}
+use Rattle.script.proofs.name.among.Tie as tie
 
 abbrev Inv-loop : tie.InvT-loop
 Inv-loop list word n₀ at₀ end₀ n at end = (n ≤ at) × (at ≤ end) × (end ≤ length list)
