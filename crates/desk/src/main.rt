@@ -1,41 +1,34 @@
 // The bench desk: calls from standard input, one a line, and after each what it answers.
-mod call;
-mod explain;
+mod answer;
 mod help;
-mod line;
-mod payload;
+mod picture;
 mod read;
-mod reading;
-mod script;
-mod slot;
-mod wrong;
+mod table;
 
-use libc::STDIN_FILENO;
-use reading::Reading;
-
-// One read of the input.
-fn turn(r: Reading, line: &mut [u8]) -> Reading {
-    let mut chunk = io::buffer();
-    let got = libc::read(STDIN_FILENO, &mut chunk);
-    let n = io::count(got, &chunk);
-    if n == 0 {
-        let mut last = r;
-        last.over = true;
-        return last;
-    }
-    reading::take(r, &chunk[..n], line)
-}
+use answer::answer;
+use script::input::CHUNK;
+use script::input::Input;
+use script::input::LINE;
+use script::line::BYTES;
+use script::line::call;
+use slots::Slots;
 
 fn main() {
-    let mut line = [0u8; 32768];
-    let mut r = Reading::start();
+    let mut chunk = [0u8; CHUNK];
+    let mut line = [0u8; LINE];
+    let mut bytes = [0u8; BYTES];
+    let mut input = Input::start();
+    let mut slots = Slots::start();
     let mut turns: u64 = 18446744073709551615;
     while 0 < turns {
-        if r.over {
-            reading::last(r, &line);
+        input = input.next(&mut chunk, &mut line);
+        if input.whole {
+            let asked = call(input, &line, &mut bytes);
+            slots = answer(slots, asked, &bytes);
+        }
+        if input.over {
             return;
         }
-        r = turn(r, &mut line);
         turns -= 1;
     }
 }

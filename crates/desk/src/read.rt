@@ -1,95 +1,31 @@
 // The calls that read a payload.
-use crate::call::Call;
-use crate::explain::introduce;
-use crate::line::Given;
-use crate::line::Line;
-use crate::line::argument;
-use crate::payload::MOST;
-use crate::payload::Spelt;
-use crate::payload::front;
-use crate::payload::payload;
-use crate::slot::echo;
 use answers::Answer;
+use reader::payload;
 use reader::user::user_part;
-use show::answer::answer;
+use script::call::Payload;
+use script::line::BYTES;
 use show::style::Style;
-use show::text::text;
 use slots::Slots;
+use words::place::front;
 
-fn refused(n: u32) -> bool {
-    n != 0 && n != 20
+// The numbers of the longest record.
+const ROW: usize = 313;
+
+fn shown(style: Style, answer: Answer, p: Payload, bytes: &[u8]) {
+    let mut row = [0u64; ROW];
+    let n = handing::write(&mut row, answer);
+    let part = user_part(p.kind, p.size, bytes);
+    show::answer::answer(style, n, p.kind, p.size, &row, part);
 }
 
-// The number and, unless it is a refusal, the fields.
-fn report(kind: u64, a: Answer, part: &[u8]) {
-    let n = a.outcome.number();
-    show::number::read(n);
-    if !refused(n) {
-        answer(Style::Line, kind, a, part);
-    }
-    text(b"\n");
+pub fn read(style: Style, p: Payload, lent: &[u8; BYTES]) {
+    let bytes = front(lent, p.count);
+    shown(style, payload::read(p.kind, p.size, bytes), p, bytes);
 }
 
-fn explained(kind: u64, size: u64, a: Answer, part: &[u8]) {
-    let n = a.outcome.number();
-    show::number::read(n);
-    introduce(n, kind, size);
-    if !refused(n) {
-        answer(Style::Explained, kind, a, part);
-    }
-    text(b"\n");
-}
-
-fn answered(line: Line, kind: u64, size: u64, bytes: &[u8]) {
-    let a = reader::payload::read(kind, size, bytes);
-    let part = user_part(kind, size, bytes);
-    let call = line.call;
-    if let Call::Explain = call {
-        explained(kind, size, a, part);
-    } else {
-        report(kind, a, part);
-    }
-}
-
-// A read, or the same explained.
-pub fn read(line: Line, s: &[u8]) {
-    let r = argument(line, s, b"the kind");
-    let Given::Number(kind, next) = r else {
-        return;
-    };
-    let mut buffer = [0u8; MOST];
-    let given = payload(next, s, &mut buffer);
-    let Spelt::Bytes(size, n) = given else {
-        return;
-    };
-    echo(s);
-    answered(line, kind, size, front(&buffer, n));
-}
-
-fn fed(slots: Slots, slot: u64, kind: u64, size: u64, bytes: &[u8]) -> Slots {
-    let fed = feeding::feed(slots, slot, kind, size, bytes);
-    report(kind, fed.answer, user_part(kind, size, bytes));
+pub fn feed(slots: Slots, slot: u64, p: Payload, lent: &[u8; BYTES]) -> Slots {
+    let bytes = front(lent, p.count);
+    let fed = feeding::feed(slots, slot, p.kind, p.size, bytes);
+    shown(Style::Line, fed.answer, p, bytes);
     fed.slots
-}
-
-fn feed_kind(slots: Slots, slot: u64, line: Line, s: &[u8]) -> Slots {
-    let r = argument(line, s, b"the kind");
-    let Given::Number(kind, next) = r else {
-        return slots;
-    };
-    let mut buffer = [0u8; MOST];
-    let given = payload(next, s, &mut buffer);
-    let Spelt::Bytes(size, n) = given else {
-        return slots;
-    };
-    echo(s);
-    fed(slots, slot, kind, size, front(&buffer, n))
-}
-
-pub fn feed(slots: Slots, line: Line, s: &[u8]) -> Slots {
-    let r = argument(line, s, b"the slot number");
-    let Given::Number(slot, next) = r else {
-        return slots;
-    };
-    feed_kind(slots, slot, next, s)
 }

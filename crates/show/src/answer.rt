@@ -1,21 +1,25 @@
-// The fields of a record, and of what a reader answers.
-use crate::depth_names::depth;
-use crate::field::field;
+// Records by their kinds, and what a reader answers: its number and, unless it is a refusal, the fields of the record.
+use crate::depth_names::depth_information;
+use crate::field::Place;
+use crate::field::fields;
+use crate::kind;
 use crate::names::alpha;
-use crate::names::carried;
 use crate::names::equirectangular;
 use crate::names::frame_packing;
 use crate::names::orientation;
+use crate::number::hint;
+use crate::number::read;
+use crate::number::sentence;
 use crate::region_names::region_wise;
 use crate::rotation_names::rotation;
 use crate::style::Style;
 use crate::user_names::registered;
 use crate::user_names::unregistered;
-use answers::Answer;
-use handing::hand_out;
+use print::numbered;
+use print::text;
 
 // The row of a kind; part is what follows the head of kinds 4 and 5.
-pub fn record(style: Style, kind: u64, row: &[u64], part: &[u8]) {
+fn record(style: Style, kind: u64, row: &[u64], part: &[u8]) {
     match kind {
         4 => registered(style, row, part),
         5 => unregistered(style, row, part),
@@ -25,20 +29,55 @@ pub fn record(style: Style, kind: u64, row: &[u64], part: &[u8]) {
         154 => rotation(style, row),
         155 => region_wise(style, row),
         165 => alpha(style, row),
-        177 => depth(style, row),
+        177 => depth_information(style, row),
         _ => {}
     }
 }
 
-// The extension's length, and the fields.
-pub fn answer(style: Style, kind: u64, a: Answer, part: &[u8]) {
-    let mut row = [0u64; 313];
-    hand_out(&mut row, 0, a);
-    field(
+// A held record, on a line of its own.
+pub fn held(kind: u64, row: &[u64]) {
+    numbered(b"\n  #", kind);
+    record(Style::Line, kind, row, b"");
+}
+
+fn extension(style: Style, row: &[u64]) {
+    let place = Place {
+        from: 0,
+        index: 0,
+        depth: b'0',
+    };
+    fields(
         style,
-        carried(true, true),
-        a.extension as u64,
+        row,
+        place,
         b"0 extension|no bits after the message|bits after the message, as newer firmware may add; they are not used",
     );
-    record(style, kind, &row, part);
+}
+
+// The kind, what the number means, and where to look.
+fn introduce(n: u32, kind: u64, size: u64) {
+    numbered(b"\n  kind #: ", kind);
+    kind::name(kind);
+    numbered(b", size #\n  ", size);
+    sentence(n);
+    if n != 0 {
+        text(b"\n  Look at: ");
+        hint(n, kind);
+    }
+}
+
+// The number and, unless it is a refusal, the extension's length and the fields.
+pub fn answer(style: Style, n: u32, kind: u64, size: u64, row: &[u64], part: &[u8]) {
+    read(n);
+    if let Style::Explained = style {
+        introduce(n, kind, size);
+    }
+    match n {
+        0 | 20 => {
+            extension(style, row);
+            record(style, kind, row, part);
+        }
+        _ => {}
+    }
+    text(b"\n");
 }

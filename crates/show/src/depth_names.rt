@@ -1,41 +1,37 @@
 // Kind 177, depth representation information. Each of the four numbers has six of the row: sign, exponent, mantissa length less one, mantissa,
 // whether it is absent (0), unspecified (1) or a number (2), and the number's 64 bits.
 use crate::field::Place;
-use crate::field::apart;
 use crate::field::at;
 use crate::field::field;
 use crate::field::fields;
-use crate::field::shown;
 use crate::fraction::decimal;
 use crate::fraction::power;
 use crate::names::carried;
 use crate::style::Style;
-use crate::text::bits;
-use crate::text::number;
-use crate::text::text;
+use crate::style::apart;
+use crate::style::depth;
+use print::bits;
+use print::number;
+use print::numbered;
+use print::piece;
+use print::text;
 ghost use Prim.Native.Nat.{_≤_};
 
-// A number too long to be written out.
-fn scaled(m: u64, sign: &[u8], k: u64) {
-    number(m);
-    text(b" x 2^");
-    text(sign);
-    number(k);
-}
-
-// m × 2^k.
+// m × 2^k, which may be too long to be written out.
 fn multiple(m: u64, k: u64) {
     if 30 < k {
-        scaled(m, b"", k);
+        numbered(b"# x 2^", m);
+        number(k);
     } else {
         number(m << k);
     }
 }
 
-// m / 2^k.
+// m / 2^k, likewise.
 fn part(m: u64, k: u64) {
     if 61 < k {
-        scaled(m, b"-", k);
+        numbered(b"# x 2^-", m);
+        number(k);
     } else {
         decimal(m, power(k));
     }
@@ -91,8 +87,11 @@ fn coded(row: &[u64], from: usize)
         specified(row, from);
     }
     text(b" from");
-    let mut place = carried(true, true);
-    place.from = from;
+    let place = Place {
+        from,
+        index: 0,
+        depth: b'0',
+    };
     fields(
         Style::Line,
         row,
@@ -101,25 +100,20 @@ fn coded(row: &[u64], from: usize)
     );
 }
 
-fn element(style: Style, flag: u64, name: &[u8], row: &[u64], from: usize)
-    requires { ⌜ from ≤ 256 ⌝ }
+// One of the four numbers, which its flag in the row says is there.
+fn element(style: Style, row: &[u64], flag: usize)
+    requires { ⌜ flag ≤ 4 ⌝ }
 {
-    if shown(style, b'1', carried(flag == 1, true)) {
+    let there = at(row, flag) == 1;
+    if b'1' <= depth(style, there, false) {
         apart(style);
-        text(name);
-        if flag == 1 {
-            coded(row, from);
+        piece(b"|ZNear=|ZFar=|DMin=|DMax=", flag as u64);
+        if there {
+            coded(row, 6 * flag + 1);
         } else {
             text(b"absent");
         }
     }
-}
-
-fn elements(style: Style, row: &[u64]) {
-    element(style, at(row, 1), b"ZNear=", row, 7);
-    element(style, at(row, 2), b"ZFar=", row, 13);
-    element(style, at(row, 3), b"DMin=", row, 19);
-    element(style, at(row, 4), b"DMax=", row, 25);
 }
 
 // The list of type 3, which H.274 counts from 1.
@@ -132,8 +126,7 @@ fn list(style: Style, row: &[u64], count: u64) {
         let place = Place {
             from: 32 + i as usize,
             index: i + 1,
-            outer: true,
-            inner: true,
+            depth: b'0',
         };
         fields(
             style,
@@ -150,11 +143,11 @@ fn viewed(d_min_flag: u64, d_max_flag: u64) -> bool {
     d_min_flag == 1 || d_max_flag == 1
 }
 
-pub fn depth(style: Style, row: &[u64]) {
+pub fn depth_information(style: Style, row: &[u64]) {
     fields(
         style,
         row,
-        carried(viewed(at(row, 3), at(row, 4)), true),
+        carried(style, viewed(at(row, 3), at(row, 4)), false),
         b"0 z_near_flag|not coded|coded\n\
         0 z_far_flag|not coded|coded\n\
         0 d_min_flag|not coded|coded\n\
@@ -162,12 +155,15 @@ pub fn depth(style: Style, row: &[u64]) {
         0 depth_representation_type|samples are the inverse of the distance|samples are disparity|samples are the distance|samples are disparity, mapped by the list|reserved\n\
         1 disparity_ref_view_id",
     );
-    elements(style, row);
+    element(style, row, 1);
+    element(style, row, 2);
+    element(style, row, 3);
+    element(style, row, 4);
     let count = at(row, 31);
     if 0 < count {
         field(
             style,
-            carried(true, true),
+            carried(style, true, false),
             count - 1,
             b"0 depth_nonlinear_representation_num_minus1",
         );

@@ -1,59 +1,23 @@
 // A field: its name, its value and, where a message is explained, what the value means.
-use crate::scan::piece;
 use crate::style::Style;
-use crate::text::number;
-use crate::text::text;
+use crate::style::apart;
+use print::numbered;
+use print::piece;
+use print::text;
 use words::place::find;
 
-// Where a row's fields stand, and which of them the message carries.
+// Where fields stand in a row, and which of them are shown.
 pub struct Place {
     pub from: usize,
     // The index in their names, for a '#'.
     pub index: u64,
-    pub outer: bool,
-    pub inner: bool,
+    // How deep a field may lie (`style::depth`).
+    pub depth: u8,
 }
 
 // The number at a place of a row; 0 past its end.
 pub fn at(row: &[u64], i: usize) -> u64 {
     if i < row.len() { row[i] } else { 0 }
-}
-
-// What goes before a field.
-pub fn apart(style: Style) {
-    match style {
-        Style::Line => text(b" "),
-        Style::Explained => text(b"\n  "),
-    }
-}
-
-// Whether a field is shown, by how deep it lies: 0 is always carried, 1 where the outer condition holds, 2 where both do.
-pub fn shown(style: Style, depth: u8, place: Place) -> bool {
-    match style {
-        Style::Line => true,
-        Style::Explained => {
-            if depth == b'0' {
-                return true;
-            }
-            if place.outer {
-                if depth == b'1' { true } else { place.inner }
-            } else {
-                false
-            }
-        }
-    }
-}
-
-// A name, with the index where it has a '#'.
-fn name(s: &[u8], index: u64) {
-    let start = 0;
-    let hash = find(s, start, b'#');
-    text(&s[start..hash]);
-    if hash < s.len() {
-        number(index);
-        let after = hash + 1;
-        text(&s[after..]);
-    }
 }
 
 // Meanings that several kinds share, by a letter.
@@ -92,12 +56,6 @@ fn meaning(s: &[u8], n: u64) {
     }
 }
 
-fn said(style: Style, s: &[u8], n: u64) {
-    if let Style::Explained = style {
-        meaning(s, n);
-    }
-}
-
 // A field by its line: how deep it lies, a space, the name, and after a bar what its values mean.
 pub fn field(style: Style, place: Place, n: u64, line: &[u8]) {
     let start = 2;
@@ -105,12 +63,13 @@ pub fn field(style: Style, place: Place, n: u64, line: &[u8]) {
     if bar < start {
         return;
     }
-    if shown(style, line[0], place) {
+    if line[0] <= place.depth {
         apart(style);
-        name(&line[start..bar], place.index);
-        text(b"=");
-        number(n);
-        said(style, &line[bar..], n);
+        numbered(&line[start..bar], place.index);
+        numbered(b"=#", n);
+        if let Style::Explained = style {
+            meaning(&line[bar..], n);
+        }
     }
 }
 

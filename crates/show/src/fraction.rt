@@ -1,6 +1,6 @@
 // Numbers with a binary fraction, in decimal, to the last digit.
-use crate::text::number;
-use crate::text::text;
+use print::number;
+use print::text;
 ghost use mathlib.Core.Path.{_≡_};
 ghost use Prim.Native.Nat.{_^_, _≤_, _<_};
 

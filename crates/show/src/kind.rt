@@ -1,5 +1,5 @@
 // The nine kinds by name.
-use crate::scan::piece;
+use print::piece;
 
 fn place(kind: u64) -> u64 {
     match kind {

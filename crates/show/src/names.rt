@@ -1,17 +1,22 @@
-// The names of kinds 4, 45, 47, 150 and 165, and what their values mean. A line begins with how deep its field lies (`field::shown`).
+// The names of kinds 45, 47, 150 and 165, and what their values mean. A line begins with how deep its field lies (`style::depth`).
 use crate::field::Place;
 use crate::field::at;
 use crate::field::fields;
 use crate::style::Style;
+use crate::style::depth;
 
-// The fields after the extension's length, and which of them the message carries.
-pub fn carried(outer: bool, inner: bool) -> Place {
+// The fields after the extension's length, by the conditions under which the message carries them.
+pub fn carried(style: Style, outer: bool, inner: bool) -> Place {
     Place {
         from: 1,
         index: 0,
-        outer,
-        inner,
+        depth: depth(style, outer, inner),
     }
+}
+
+// The same where the first of them cancels, and the one at a place of the row says whether the deeper ones are there.
+pub fn uncancelled(style: Style, row: &[u64], flag: usize) -> Place {
+    carried(style, at(row, 1) == 0, at(row, flag) == 1)
 }
 
 // The grid stands there unless the frames are quincunx sampled or alternate in time.
@@ -23,7 +28,7 @@ pub fn frame_packing(style: Style, row: &[u64]) {
     fields(
         style,
         row,
-        carried(at(row, 2) == 0, placed(at(row, 4), at(row, 3))),
+        carried(style, at(row, 2) == 0, placed(at(row, 4), at(row, 3))),
         b"0 fp_arrangement_id\n\
         0 fp_arrangement_cancel_flag|@c\n\
         1 fp_arrangement_type|reserved|reserved|reserved|side by side|top and bottom|the two frames alternate in time|reserved\n\
@@ -48,7 +53,7 @@ pub fn orientation(style: Style, row: &[u64]) {
     fields(
         style,
         row,
-        carried(at(row, 1) == 0, true),
+        uncancelled(style, row, 1),
         b"0 display_orientation_cancel_flag|@c\n\
         1 display_orientation_persistence_flag|@p\n\
         1 display_orientation_transform_type|@t",
@@ -59,7 +64,7 @@ pub fn equirectangular(style: Style, row: &[u64]) {
     fields(
         style,
         row,
-        carried(at(row, 1) == 0, at(row, 3) == 1),
+        uncancelled(style, row, 3),
         b"0 erp_cancel_flag|@c\n\
         1 erp_persistence_flag|@p\n\
         1 erp_guard_band_flag|no guard bands|guard bands\n\
@@ -73,7 +78,7 @@ pub fn alpha(style: Style, row: &[u64]) {
     fields(
         style,
         row,
-        carried(at(row, 1) == 0, at(row, 7) == 1),
+        uncancelled(style, row, 7),
         b"0 alpha_channel_cancel_flag|fields follow|ends what was said\n\
         1 alpha_channel_use_idc|blending multiplies the picture by alpha|the picture is multiplied already|unspecified|reserved\n\
         1 alpha_channel_bit_depth_minus8|the bit depth of a sample, less 8\n\
@@ -82,15 +87,5 @@ pub fn alpha(style: Style, row: &[u64]) {
         1 alpha_channel_incr_flag|samples are taken as they are|samples above the lower of the two values are increased by one\n\
         1 alpha_channel_clip_flag|samples are not clipped|samples are clipped\n\
         2 alpha_channel_clip_type_flag|to the nearer of the two values|to the range between the two values",
-    );
-}
-
-pub fn registered(style: Style, row: &[u64]) {
-    fields(
-        style,
-        row,
-        carried(at(row, 1) == 255, true),
-        b"0 itu_t_t35_country_code\n\
-        1 itu_t_t35_country_code_extension_byte",
     );
 }

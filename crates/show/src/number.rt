@@ -1,7 +1,7 @@
 // The number that a caller gets: in a word or two, in a sentence, and where to look.
-use crate::scan::piece;
-use crate::text::number;
-use crate::text::text;
+use print::numbered;
+use print::piece;
+use print::text;
 
 // The place of a number's text below: 0 to 10 are their own, and 20 comes after them.
 fn place(n: u32) -> u64 {
@@ -9,9 +9,8 @@ fn place(n: u32) -> u64 {
 }
 
 // Of a read or a feed.
-pub fn read(n: u32) {
-    number(n as u64);
-    text(b" ");
+pub(crate) fn read(n: u32) {
+    numbered(b"# ", n as u64);
     piece(
         b"taken|unknown kind|bad size|payload too short|too many zeros|rule broken|too many regions|bad tail|no such open slot|\
         no region table|too few rows lent|set aside",
@@ -46,38 +45,35 @@ pub fn sentence(n: u32) {
     );
 }
 
-// Which rule 5 can mean, by the kind.
-fn rule(kind: u64) {
+// The place of a hint below: a broken rule's is by the kind.
+fn hint_place(n: u32, kind: u64) -> u64 {
+    if n != 5 {
+        return place(n);
+    }
     match kind {
-        154 => text(b"yaw and roll go from -180 to below 180 degrees, pitch from -90 to 90."),
-        155 => text(
-            b"regions and picture sizes are at least 1; a guard band type 0 needs rwp_guard_band_not_used_for_pred_flag=1.",
-        ),
-        _ => text(
-            b"depth_representation_type is at most 15, depth_nonlinear_representation_num_minus1 at most 62, a listed number at most 65535.",
-        ),
+        154 => 12,
+        155 => 13,
+        _ => 5,
     }
 }
 
 // Where to look when a payload of the kind gets a number.
-pub fn hint(n: u32, kind: u64) {
-    if n == 5 {
-        rule(kind);
-        return;
-    }
+pub(crate) fn hint(n: u32, kind: u64) {
     piece(
         b"nothing.|\
         the kind number (payloadType): 4, 5, 45, 47, 150, 154, 155, 165 or 177.|\
         whether the size counts a header too, or the capture lost bytes.|\
         whether the kind is right, and whether the capture lost bytes at the end.|\
         whether the kind is right: so many zeros are padding and no message.|\
-        the rules.|\
+        depth_representation_type is at most 15, depth_nonlinear_representation_num_minus1 at most 62, a listed number at most 65535.|\
         the second byte, rwp_num_packed_regions.|\
         the last byte: it needs a one bit after the message; zero bytes at the end are not permitted.|\
         the slot: open it first.|\
         what was fed to the slot.|\
         how many numbers are lent.|\
-        fp_arrangement_id (256 to 511 and 2147483648 on are reserved), the type (3, 4 or 5) and the interpretation (0 to 2).",
-        place(n),
+        fp_arrangement_id (256 to 511 and 2147483648 on are reserved), the type (3, 4 or 5) and the interpretation (0 to 2).|\
+        yaw and roll go from -180 to below 180 degrees, pitch from -90 to 90.|\
+        regions and picture sizes are at least 1; a guard band type 0 needs rwp_guard_band_not_used_for_pred_flag=1.",
+        hint_place(n, kind),
     );
 }

@@ -2,11 +2,14 @@
 use crate::field::Place;
 use crate::field::at;
 use crate::field::fields;
-use crate::names::carried;
+use crate::names::uncancelled;
 use crate::style::Style;
-use crate::text::text;
-use regions::MOST;
+use crate::style::depth;
+use print::text;
 ghost use Prim.Native.Nat.{_≤_};
+
+// The regions that a row has room for.
+const MOST: u64 = 16;
 
 // A region's fields, on a line of their own.
 fn region(style: Style, row: &[u64], from: usize, i: u64)
@@ -18,8 +21,7 @@ fn region(style: Style, row: &[u64], from: usize, i: u64)
     let place = Place {
         from,
         index: i,
-        outer: at(row, from + 1) == 1,
-        inner: false,
+        depth: depth(style, at(row, from + 1) == 1, false),
     };
     fields(
         style,
@@ -50,7 +52,7 @@ fn region(style: Style, row: &[u64], from: usize, i: u64)
 fn regions(style: Style, row: &[u64], count: u64) {
     let mut i: u64 = 0;
     while i < count {
-        if MOST as u64 <= i {
+        if MOST <= i {
             return;
         }
         region(style, row, 9 + 19 * (i as usize), i);
@@ -62,7 +64,7 @@ pub fn region_wise(style: Style, row: &[u64]) {
     fields(
         style,
         row,
-        carried(at(row, 1) == 0, true),
+        uncancelled(style, row, 1),
         b"0 rwp_cancel_flag|@c\n\
         1 rwp_persistence_flag|@p\n\
         1 rwp_constituent_picture_matching_flag|the regions hold for the whole picture|the regions hold for each of the two frames of kind 45\n\

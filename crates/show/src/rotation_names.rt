@@ -1,14 +1,15 @@
 // Kind 154, sphere rotation.
-use crate::field::apart;
 use crate::field::at;
 use crate::field::fields;
-use crate::field::shown;
 use crate::fraction::decimal;
-use crate::names::carried;
+use crate::names::uncancelled;
 use crate::style::Style;
-use crate::text::bits;
-use crate::text::number;
-use crate::text::text;
+use crate::style::apart;
+use print::bits;
+use print::numbered;
+use print::piece;
+use print::text;
+ghost use Prim.Native.Nat.{_≤_};
 
 // The sign of a number of 32 bits in two's complement.
 fn minus(coded: u64) {
@@ -26,23 +27,26 @@ fn magnitude(coded: u64) -> u64 {
     }
 }
 
-// The coded number, the degrees that it makes, and the 64 bits of their float.
-fn angle(style: Style, name: &[u8], coded: u64, degrees: u64) {
+// The angle at a place of the row: the coded number, the degrees that it makes, and, three places on in the row, the 64 bits of their float.
+fn angle(style: Style, row: &[u64], i: usize)
+    requires { ⌜ i ≤ 256 ⌝ }
+{
+    let coded = at(row, i);
     let n = magnitude(coded);
     apart(style);
-    text(name);
+    piece(b"|||yaw|pitch|roll", i as u64);
+    text(b"_rotation=");
     minus(coded);
-    number(n);
-    text(b" (");
+    numbered(b"# (", n);
     minus(coded);
     decimal(n, 65536);
     text(b" degrees, ");
-    bits(degrees);
+    bits(at(row, i + 3));
     text(b")");
 }
 
 pub fn rotation(style: Style, row: &[u64]) {
-    let place = carried(at(row, 1) == 0, true);
+    let place = uncancelled(style, row, 1);
     fields(
         style,
         row,
@@ -50,9 +54,9 @@ pub fn rotation(style: Style, row: &[u64]) {
         b"0 sphere_rotation_cancel_flag|@c\n\
         1 sphere_rotation_persistence_flag|@p",
     );
-    if shown(style, b'1', place) {
-        angle(style, b"yaw_rotation=", at(row, 3), at(row, 6));
-        angle(style, b"pitch_rotation=", at(row, 4), at(row, 7));
-        angle(style, b"roll_rotation=", at(row, 5), at(row, 8));
+    if b'1' <= place.depth {
+        angle(style, row, 3);
+        angle(style, row, 4);
+        angle(style, row, 5);
     }
 }

@@ -1,7 +1,29 @@
 // How fields are shown.
+use print::text;
+
 pub enum Style {
     // Every field of a record, in one line.
     Line,
     // The fields that the message carries, one a line, with what they mean.
     Explained,
+}
+
+// What goes before a field.
+pub fn apart(style: Style) {
+    match style {
+        Style::Line => text(b" "),
+        Style::Explained => text(b"\n  "),
+    }
+}
+
+// How deep a field may lie to be shown: 0 is always carried, 1 where the outer condition holds, 2 where both do.
+pub fn depth(style: Style, outer: bool, inner: bool) -> u8 {
+    let Style::Explained = style else {
+        return b'2';
+    };
+    if outer {
+        if inner { b'2' } else { b'1' }
+    } else {
+        b'0'
+    }
 }

@@ -1,11 +1,12 @@
-// What follows the head of kinds 4 and 5, and the identifier of kind 5.
-use crate::field::apart;
+// Kinds 4 and 5, user data: the head, and what follows it.
 use crate::field::at;
-use crate::names;
+use crate::field::fields;
+use crate::names::carried;
 use crate::style::Style;
-use crate::text::bytes;
-use crate::text::printable;
-use crate::text::text;
+use crate::style::apart;
+use print::bytes;
+use print::printable;
+use print::text;
 
 // In hex and, where it is explained, as text.
 fn rest(style: Style, name: &[u8], part: &[u8]) {
@@ -20,7 +21,13 @@ fn rest(style: Style, name: &[u8], part: &[u8]) {
 }
 
 pub fn registered(style: Style, row: &[u64], part: &[u8]) {
-    names::registered(style, row);
+    fields(
+        style,
+        row,
+        carried(style, at(row, 1) == 255, true),
+        b"0 itu_t_t35_country_code\n\
+        1 itu_t_t35_country_code_extension_byte",
+    );
     rest(style, b"itu_t_t35_payload_byte=", part);
 }
 

@@ -45,9 +45,9 @@ fn pair(s: &[u8], i: usize) -> Hex
     Hex::Bytes(high as usize * 16 + low as usize)
 }
 
-// The bytes that a text spells from a place on; there may be spaces between them.
-pub fn bytes(s: &[u8], from: usize, out: &mut [u8]) -> Hex {
-    let mut i = from;
+// The bytes that a text spells; there may be spaces between them.
+pub fn bytes(s: &[u8], out: &mut [u8]) -> Hex {
+    let mut i = 0;
     let mut n = 0;
     while i < s.len() {
         if s[i] == b' ' {

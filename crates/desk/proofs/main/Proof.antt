@@ -1,16 +1,15 @@
 -- `desk::main` is safe and ends.
 -- Assumes nothing.
-use mathlib.Core.Path.{_≡_}
-use lib.ListN.{length}
+use Prim.Native.Nat.{_≤_}
 use borrow.Author.Needs.{needs}
 use Rattle.desk.proofs.main.Statement.{statement}
 use Rattle.desk.proofs.main.Tie as tie
 
 abbrev Inv-loop : tie.InvT-loop
-Inv-loop line₀ r₀ turns₀ line r turns = 32768 ≡ length line
+Inv-loop chunk₀ line₀ bytes₀ input₀ slots₀ turns₀ chunk line bytes input slots turns = 0 ≤ turns
 
 abbrev μ-loop : tie.MeasureT-loop
-μ-loop line₀ r₀ turns₀ line r turns = turns
+μ-loop chunk₀ line₀ bytes₀ input₀ slots₀ turns₀ chunk line bytes input slots turns = turns
 
 pub main-spec : {M : Type 1} → statement M
 main-spec =
@@ -19,12 +18,12 @@ main-spec =
     Inv-loop
     μ-loop
     (λ c κs. search needs)
-    (λ c. search needs)
-    (λ c. search needs)
     (λ c κs. search needs)
     (λ c. search needs)
-    (λ c. search needs)
     (λ c κs. search needs)
+    (λ c κs. search needs)
+    (λ c κs. search needs)
+    (λ c. search needs)
     (λ c. search needs)
     (λ c. search needs)
     (λ c. search needs)

@@ -6,10 +6,10 @@ use Rattle.show.proofs.table.table.Statement.{statement}
 use Rattle.show.proofs.table.table.Tie as tie
 
 abbrev Inv-loop : tie.InvT-loop
-Inv-loop rows count i₀ t5 t6 t7 i = i ≤ count
+Inv-loop rows count i₀ i = i ≤ count
 
 abbrev μ-loop : tie.MeasureT-loop
-μ-loop rows count i₀ t5 t6 t7 i = count - i
+μ-loop rows count i₀ i = count - i
 
 pub table-spec : {M : Type 1} → statement M
 table-spec =
@@ -17,16 +17,6 @@ table-spec =
     (tie.spec
     Inv-loop
     μ-loop
-    (λ c. search needs)
-    (λ c. search needs)
-    (λ c κs. search needs)
-    (λ c. search needs)
-    (λ c κs. search needs)
-    (λ c. search needs)
-    (λ c κs. search needs)
-    (λ c κs. search needs)
-    (λ c. search needs)
-    (λ c. search needs)
     (λ c. search needs)
     (λ c κs. search needs)
     (λ c. search needs)

@@ -8,10 +8,10 @@ use Rattle.words.proofs.hex.bytes.Statement.{statement}
 use Rattle.words.proofs.hex.bytes.Tie as tie
 
 abbrev Inv-loop : tie.InvT-loop
-Inv-loop s from out₀ i₀ n₀ out i n = length out ≡ length out₀
+Inv-loop s out₀ i₀ n₀ out i n = length out ≡ length out₀
 
 abbrev μ-loop : tie.MeasureT-loop
-μ-loop s from out₀ i₀ n₀ out i n = length s - i
+μ-loop s out₀ i₀ n₀ out i n = length s - i
 
 pub bytes-spec : {M : Type 1} → statement M
 bytes-spec =

@@ -1,0 +1,117 @@
+// One line of a script: the call that it spells.
+use crate::argument::argument;
+use crate::argument::first;
+use crate::argument::last;
+use crate::argument::rest;
+use crate::call::Call;
+use crate::input::Input;
+use crate::input::LINE;
+use crate::name;
+use crate::payload::Given;
+use crate::payload::payload;
+use crate::wrong;
+use crate::wrong::At;
+use crate::wrong::wrong;
+use print::text;
+use words::number::Spelled;
+use words::place::content;
+use words::place::front;
+
+// More than a payload may have, so that its refusal can be seen.
+pub const BYTES: usize = 10000;
+
+fn slot(at: At, s: &[u8]) -> Call {
+    let r = last(at, s, wrong::NO_SLOT);
+    let Spelled::Value(n) = r else {
+        return Call::Nothing;
+    };
+    let call = at.call;
+    match call {
+        name::OPEN => Call::Open(n),
+        name::CLOSE => Call::Close(n),
+        name::SEQUENCE => Call::Sequence(n),
+        _ => Call::Picture(n),
+    }
+}
+
+fn table(at: At, s: &[u8]) -> Call {
+    let r = argument(at, s, wrong::NO_SLOT);
+    let Spelled::Value(slot) = r else {
+        return Call::Nothing;
+    };
+    let lent = last(at, rest(s), wrong::NO_COUNT);
+    let Spelled::Value(n) = lent else {
+        return Call::Nothing;
+    };
+    Call::Table(slot, n)
+}
+
+fn feed(at: At, s: &[u8], out: &mut [u8]) -> Call {
+    let r = argument(at, s, wrong::NO_SLOT);
+    let Spelled::Value(slot) = r else {
+        return Call::Nothing;
+    };
+    let given = payload(at, rest(s), out);
+    let Given::Payload(p) = given else {
+        return Call::Nothing;
+    };
+    Call::Feed(slot, p)
+}
+
+fn read(at: At, s: &[u8], out: &mut [u8]) -> Call {
+    let given = payload(at, s, out);
+    let Given::Payload(p) = given else {
+        return Call::Nothing;
+    };
+    if at.call == name::READ {
+        Call::Read(p)
+    } else {
+        Call::Explain(p)
+    }
+}
+
+// The call of a line that is not empty.
+fn spelled(line: u64, s: &[u8], out: &mut [u8]) -> Call {
+    let word = first(s);
+    let after = rest(s);
+    let call = name::place(word);
+    let at = At { line, call };
+    match call {
+        name::OPEN..=name::PICTURE => slot(at, after),
+        name::TABLE => table(at, after),
+        name::FEED => feed(at, after, out),
+        name::READ..=name::EXPLAIN => read(at, after, out),
+        name::HELP => Call::Help,
+        _ => {
+            wrong(at, word, wrong::NO_CALL);
+            Call::Nothing
+        }
+    }
+}
+
+// What goes before an answer: the call itself.
+fn echo(call: Call, s: &[u8]) {
+    match call {
+        Call::Help => {}
+        Call::Nothing => {}
+        _ => {
+            text(s);
+            text(b": ");
+        }
+    }
+}
+
+// The call that a line spells, which is written, and its bytes, which are lent; or what is wrong is said.
+pub fn call(input: Input, line: &[u8; LINE], out: &mut [u8; BYTES]) -> Call {
+    if LINE <= input.length {
+        wrong::long(input.line);
+        return Call::Nothing;
+    }
+    let s = content(front(line, input.length));
+    if s.len() == 0 {
+        return Call::Nothing;
+    }
+    let r = spelled(input.line, s, out);
+    echo(r, s);
+    r
+}
