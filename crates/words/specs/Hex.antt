@@ -1,13 +1,61 @@
--- What a character spells in hex.
-use Prim.Native.Nat.{ℕ, _-_, _≤_, _<_}
-use mathlib.Core.Path.{_≡_}
+-- Bytes in hex: what the characters of a text spell, up to the first thing that is wrong.
+use Prim.Native.Nat.{ℕ, _+_, _-_, _*_}
+use mathlib.Core.Bool.{cond}
+use mathlib.Core.List.{List, [], _∷_}
+use lib.Dec.{eqb, ltb, leb}
+use lib.ListN.{length}
+use lib.Seq.{sets}
+use Rattle.words.specs.declared.hex.Hex.{Hex}
+use Rattle.words.specs.declared.hex.Hex.the-variants.{Bytes, Odd, Foreign, Long}
+use Rattle.words.specs.declared.hex.Paired.{Paired}
+use Rattle.words.specs.declared.hex.Paired.the-variants.{Byte, Wrong}
 
 -- '0' to '9' are 48 to 57, 'A' to 'F' 65 to 70 and 'a' to 'f' 97 to 102; any other character spells 16
-pub record Spells (b r : ℕ) : Type 0 where
-  pub decimal : 48 ≤ b → b ≤ 57 → r ≡ b - 48
-  pub upper : 65 ≤ b → b ≤ 70 → r ≡ b - 55
-  pub lower : 97 ≤ b → b ≤ 102 → r ≡ b - 87
-  pub before-decimal : b < 48 → r ≡ 16
-  pub before-upper : 57 < b → b < 65 → r ≡ 16
-  pub before-lower : 70 < b → b < 97 → r ≡ 16
-  pub after : 102 < b → r ≡ 16
+unfoldable pub digitOf : ℕ → ℕ
+digitOf b =
+    cond (ltb b 48) 16
+    (cond (ltb b 58) (b - 48)
+    (cond (ltb b 65) 16
+    (cond (ltb b 71) (b - 55)
+    (cond (ltb b 97) 16
+    (cond (ltb b 103) (b - 87)
+    16)))))
+
+-- a byte's digits a and b, of which a stands at i; a space is no second digit
+unfoldable pub pairOf : ℕ → ℕ → ℕ → Paired
+pairOf i a b =
+    cond (eqb b 32) (Wrong Odd)
+    (cond (eqb (digitOf a) 16) (Wrong (Foreign i))
+    (cond (eqb (digitOf b) 16) (Wrong (Foreign (i + 1)))
+    (Byte (digitOf a * 16 + digitOf b))))
+
+-- the bytes that a text spells, and how it ends
+pub record Spelling : Type 0 where
+  pub bytes : List ℕ
+  pub ending : Hex
+
+abbrev pub ends : Hex → Spelling
+ends e = record { bytes = []; ending = e }
+
+-- a byte stands before what follows it; what is wrong ends the text
+unfoldable pub onward : Paired → Spelling → Spelling
+onward (Byte b) t = record { bytes = b ∷ t .bytes; ending = t .ending }
+onward (Wrong e) t = ends e
+
+-- the characters from place i on, of a text that spelled n bytes before it
+unfoldable pub spelling : ℕ → ℕ → List ℕ → Spelling
+spelling i n [] = ends (Bytes n)
+spelling i n (a ∷ []) = ends (cond (eqb a 32) (Bytes n) Odd)
+spelling i n (a ∷ b ∷ rest) = cond (eqb a 32) (spelling (i + 1) n (b ∷ rest)) (onward (pairOf i a b) (spelling (i + 2) (n + 1) rest))
+
+-- what a call answers, and the lent bytes as it leaves them
+pub record Outcome : Type 0 where
+  pub answer : Hex
+  pub lent : List ℕ
+
+abbrev pub outcome : Hex → List ℕ → Outcome
+outcome r lent = record { answer = r; lent = lent }
+
+-- the bytes over the front of what is lent, as many as there is room for
+unfoldable pub into : List ℕ → Spelling → Outcome
+into lent t = outcome (cond (leb (length (t .bytes)) (length lent)) (t .ending) Long) (sets lent 0 (t .bytes))

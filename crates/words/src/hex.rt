@@ -1,11 +1,12 @@
 // Bytes in hex.
-ghost use Prim.Native.Nat.{_+_, _<_, _≤_};
-ghost use lib.ListN.{length};
-ghost use Rattle.words.specs.Hex.{Spells};
+ghost use mathlib.Core.Path.{_≡_};
+ghost use Prim.Native.Nat.{_<_};
+ghost use Rattle.words.specs.Hex.{digitOf, pairOf, spelling, outcome, into};
 
 // What a character spells: a digit's value, or 16 where it is none.
 pub fn digit(b: u8) -> u8
-    ensures { λ r. ⌜ Spells b r × (r < 17) ⌝ }
+    ensures { λ r. ⌜ r ≡ digitOf b ⌝ }
+    ensures { λ r. ⌜ r < 17 ⌝ }
 {
     match b {
         b'0'..=b'9' => b - b'0',
@@ -16,7 +17,7 @@ pub fn digit(b: u8) -> u8
 }
 
 pub enum Hex {
-    // How many bytes, or which byte.
+    // How many bytes.
     Bytes(usize),
     // A digit without its second.
     Odd,
@@ -26,46 +27,55 @@ pub enum Hex {
     Long,
 }
 
-// The byte whose two digits stand at i.
-fn pair(s: &[u8], i: usize) -> Hex
-    requires { ⌜ i + 1 < length (now s) ⌝ }
+enum Paired {
+    Byte(u8),
+    Wrong(Hex),
+}
+
+// The byte whose digits are a, at i, and b after it.
+fn pair(i: usize, a: u8, b: u8) -> Paired
+    requires { ⌜ i < 18446744073709551615 ⌝ }
+    ensures { λ r. ⌜ r ≡ pairOf i a b ⌝ }
 {
-    let next = i + 1;
-    if s[next] == b' ' {
-        return Hex::Odd;
+    if b == b' ' {
+        return Paired::Wrong(Hex::Odd);
     }
-    let high = digit(s[i]);
+    let high = digit(a);
     if high == 16 {
-        return Hex::Foreign(i);
+        return Paired::Wrong(Hex::Foreign(i));
     }
-    let low = digit(s[next]);
+    let low = digit(b);
     if low == 16 {
-        return Hex::Foreign(next);
+        return Paired::Wrong(Hex::Foreign(i + 1));
     }
-    Hex::Bytes(high as usize * 16 + low as usize)
+    Paired::Byte(high * 16 + low)
 }
 
 // The bytes that a text spells; there may be spaces between them.
-pub fn bytes(s: &[u8], out: &mut [u8]) -> Hex {
+pub fn bytes(s: &[u8], out: &mut [u8]) -> Hex
+    ensures { λ r. ⌜ outcome r (now (out .exit)) ≡ into (now (out .entry)) (spelling 0 0 (now (s .entry))) ⌝ }
+{
     let mut i = 0;
     let mut n = 0;
     while i < s.len() {
         if s[i] == b' ' {
             i += 1;
         } else {
-            if s.len() - i < 2 {
+            let next = i + 1;
+            if s.len() <= next {
                 return Hex::Odd;
             }
-            let r = pair(s, i);
-            let Hex::Bytes(b) = r else {
-                return r;
-            };
-            if out.len() <= n {
-                return Hex::Long;
+            match pair(i, s[i], s[next]) {
+                Paired::Wrong(e) => return e,
+                Paired::Byte(b) => {
+                    if out.len() <= n {
+                        return Hex::Long;
+                    }
+                    out[n] = b;
+                    n += 1;
+                    i += 2;
+                }
             }
-            out[n] = (b % 256) as u8;
-            n += 1;
-            i += 2;
         }
     }
     Hex::Bytes(n)

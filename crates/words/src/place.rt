@@ -1,8 +1,9 @@
 // Places in a text.
 ghost use mathlib.Core.Path.{_≡_};
-ghost use Prim.Native.Nat.{ℕ, _+_, _≤_, _<_};
-ghost use lib.ListN.{length, getD, take};
+ghost use Prim.Native.Nat.{_+_, _≤_};
+ghost use lib.ListN.{length, take, drop};
 ghost use Rattle.bytes.specs.Bytes.{indexOf, slice};
+ghost use Rattle.words.specs.Place.{run, trimmedOf, contentOf};
 
 // Where b first stands, from a place on; the text's length where it does not.
 pub fn find(s: &[u8], from: usize, b: u8) -> usize
@@ -16,9 +17,8 @@ pub fn find(s: &[u8], from: usize, b: u8) -> usize
 // Where something else than b first stands.
 pub fn skip(s: &[u8], from: usize, b: u8) -> usize
     requires { ⌜ from ≤ length (now s) ⌝ }
-    ensures within { λ r. ⌜ (from ≤ r) × (r ≤ length (now (s .entry))) ⌝ }
-    ensures before { λ r. ⌜ ((k : ℕ) → k < r → from ≤ k → getD (now (s .entry)) k 0 ≡ b) ⌝ }
-    ensures stopped { λ r. ⌜ (r < length (now (s .entry)) → getD (now (s .entry)) r 0 ≡ b → ⊥) ⌝ }
+    ensures { λ r. ⌜ r ≡ from + run b (drop from (now (s .entry))) ⌝ }
+    ensures { λ r. ⌜ (from ≤ r) × (r ≤ length (now (s .entry))) ⌝ }
 {
     let mut i = from;
     while i < s.len() {
@@ -41,11 +41,10 @@ pub fn front(s: &[u8], n: usize) -> &[u8]
 }
 
 // The length without the spaces at the end.
-fn trimmed(s: &[u8], to: usize) -> usize
-    requires { ⌜ to ≤ length (now s) ⌝ }
-    ensures { λ r. ⌜ r ≤ to ⌝ }
+fn trimmed(s: &[u8]) -> usize
+    ensures { λ r. ⌜ r ≡ trimmedOf (now (s .entry)) ⌝ }
 {
-    let mut i = to;
+    let mut i = s.len();
     while 0 < i {
         if s[i - 1] != b' ' {
             return i;
@@ -56,11 +55,14 @@ fn trimmed(s: &[u8], to: usize) -> usize
 }
 
 // A line without its comment and the spaces around it.
-pub fn content(s: &[u8]) -> &[u8] {
-    let from = skip(s, 0, b' ');
-    let to = trimmed(s, find(s, from, b'#'));
-    if to < from {
-        return &s[from..from];
-    }
-    &s[from..to]
+pub fn content(s: &[u8]) -> &[u8]
+    ensures { λ r. ⌜ now r ≡ contentOf (now (s .entry)) ⌝ }
+{
+    let start = 0;
+    let comment = find(s, start, b'#');
+    let text = &s[start..comment];
+    let from = skip(text, start, b' ');
+    let led = &text[from..];
+    let to = trimmed(led);
+    &led[start..to]
 }
