@@ -6,10 +6,8 @@ use crate::names::uncancelled;
 use crate::style::Style;
 use crate::style::depth;
 use print::text;
+use regions::MOST;
 ghost use Prim.Native.Nat.{_≤_};
-
-// The regions that a row has room for.
-const MOST: u64 = 16;
 
 // A region's fields, on a line of their own.
 fn region(style: Style, row: &[u64], from: usize, i: u64)
@@ -52,7 +50,7 @@ fn region(style: Style, row: &[u64], from: usize, i: u64)
 fn regions(style: Style, row: &[u64], count: u64) {
     let mut i: u64 = 0;
     while i < count {
-        if MOST <= i {
+        if MOST as u64 <= i {
             return;
         }
         region(style, row, 9 + 19 * (i as usize), i);
