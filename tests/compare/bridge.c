@@ -6,7 +6,7 @@
  */
 #define _DEFAULT_SOURCE
 
-#include "bruskelde.h"
+#include "../../host/bruskelde.h"
 
 #include <signal.h>
 #include <stdint.h>
