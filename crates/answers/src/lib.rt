@@ -118,8 +118,8 @@ impl Answer {
         ensures { λ r. ⌜ r ≡ finished kind outcome message end ⌝ }
     {
         match end {
-            Ending::Extension(e) => Answer::plain(outcome, message, e),
-            Ending::Refused(why) => Answer::refused(kind, why),
+            Ending::Extension(e) => return Answer::plain(outcome, message, e),
+            Ending::Refused(why) => return Answer::refused(kind, why),
         }
     }
 

@@ -9,7 +9,7 @@ finished-spec =
     (tie.spec
     (λ c. c .match .keys1)
     (λ c κs. tt)
+    (λ c. rw (c .plain .ensures, c .before .before .end .given .1))
     (λ c. c .match .keys2)
     (λ c κs. tt)
-    (λ c. rw (c .plain .ensures, c .before .before .end .given .1))
     (λ c. rw (c .refused .ensures, c .before .before .end2 .given .1)))
