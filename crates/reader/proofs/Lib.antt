@@ -1,8 +1,6 @@
-pub mod Order
-pub mod ByEntry
+pub mod Calls
 pub mod Demand2
 pub mod Local
-pub mod Numbers
 pub mod Determined
 pub mod Payloads
 pub mod UserHeads

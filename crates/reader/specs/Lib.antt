@@ -1,3 +1,4 @@
 pub mod Reader
+pub mod Cases
 pub mod Payloads
 pub mod User
