@@ -8,7 +8,7 @@ use denote.Ref.{now}
 use denote.Triple.Clauses.{AtExit}
 use borrow.Fn.Kinds.{endedOf}
 use Rattle.bits.proofs.Determined.{Determines, DeterminesAll}
-use Rattle.handing.specs.Handing.{Written}
+use Rattle.lent.proofs.Stores.{same-left}
 use Rattle.host.specs.Slot.{Outcome}
 use Rattle.host.proofs.bruskelde_read.Kinds as read-kinds
 use Rattle.host.proofs.bruskelde_read.Reads as read-reads
@@ -39,7 +39,7 @@ abbrev pub row : (κs : Lfts 2) → AtExit (endedOf 2 fields-kinds.ps fields-kin
 row κs s = now (s .1 .1 .1 .0)
 
 pub fields-determined : DeterminesAll 2 fields-kinds.ps fields-kinds.r row fields-reads.Post
-fields-determined κs a x y s t p q = let e = p ∙ sym q in (ap (λ (o : Written). o .number) e, ap (λ (o : Written). o .row) e)
+fields-determined κs a x y s t p q = same-left (p ∙ sym q)
 
 pub part-determined : Determines 1 part-kinds.ps part-kinds.r part-reads.Post
 part-determined κs a x y s t p q = p ∙ sym q
