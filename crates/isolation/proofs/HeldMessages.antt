@@ -1,17 +1,17 @@
--- Every record that a slot holds is a message by its kind's table, and no cancel; of kind 155 it has from 1 to `most` regions.
+-- Every record that calls leave in a slot that held nothing is a message by its kind's table, and no cancel; of kind 155 it has a count that a
+-- table can be made of.
 -- Assumes nothing.
-use Prim.Native.Nat.{ℕ, _≤_, _<_}
+use Prim.Native.Nat.{ℕ}
 use native.Mathlib.Omega.{arith}
 use mathlib.Core.Path.{_≡_, refl, sym, ap, _∙_, subst}
-use mathlib.Core.Logic.{_↔_}
 use mathlib.Core.Bool.{Bool, true, false}
 use mathlib.Core.List.{List, [], _∷_, _++_}
 use lib.ListN.{take}
 use Rattle.format.specs.Coded.{Coded}
 use Rattle.format.specs.Whole.{Reading, taken, setAside, refused as refused-reading}
-use Rattle.regions.specs.List.{most}
 use Rattle.regions.specs.declared.Packing.{Packing}
 use Rattle.regions.proofs.Kept as regions
+use Rattle.rows.proofs.TableLaws.{Countable}
 use Rattle.answers.specs.Listed.{Record, form, number, named, readingOf}
 use Rattle.answers.specs.Answer.{numberOf, made, answerFor}
 use Rattle.reader.specs.Reader.{sized, cut, answered, answerTo}
@@ -23,16 +23,15 @@ use Rattle.answers.specs.declared.Answer.{Answer}
 use Rattle.answers.specs.declared.Outcome.the-variants.{Taken}
 use Rattle.reader.proofs.Demand2.{taken-when}
 use Rattle.format.specs.Syntax.{if_then_else_}
-use Rattle.slots.specs.Slots.{Eight, slotAt, isOpen, freshSlot}
+use Rattle.held.specs.Held.{nothing}
+use Rattle.slots.specs.Slots.{isOpen}
 use Rattle.slots.specs.declared.Slot.{Slot}
-use Rattle.slots.specs.declared.Slots.{Slots}
 use Rattle.feeding.specs.Feed.{shutAnswer}
 use Rattle.feeding.proofs.FeedLaws.{shut-8}
-use Rattle.isolation.specs.Runs.{Call, opens, closes, sequences, pictures, feeds, tables, Reply, read, turn, ends, after, only}
-use Rattle.isolation.specs.Lasting.{Lasting, regionWise, kindOf, cancelOf, HoldsOf, Told, history, Answers, Since}
+use Rattle.isolation.specs.Runs.{Call, opens, closes, sequences, pictures, feeds, tables, Reply, read, turn, ends}
+use Rattle.isolation.specs.Lasting.{Lasting, regionWise, kindOf, cancelOf, ByTable, HoldsOf, Told, history, Answers}
 use Rattle.isolation.proofs.HeldKinds.{same-number, same-value}
-use Rattle.isolation.proofs.Isolation.{alone}
-use Rattle.isolation.proofs.Persistence.{Unread, unread, holds-iff}
+use Rattle.isolation.proofs.Persistence.{Unread, unread, holds-when}
 
 -- ---- an answer of 0 comes of a message by the table
 
@@ -50,10 +49,6 @@ named-of kinds.Unregistered = refl
 
 one-kind : (j i : Kind) → number j ≡ number i → j ≡ i
 one-kind j i e = let l : Listed j ≡ Listed i = sym (named-of j) ∙ ap named e ∙ named-of i in cc
-
--- some bits are the message a
-abbrev pub ByTable : (k : Lasting) → Record (kindOf k) → Type 0
-ByTable k a = (w : List Bool) × Coded (form (kindOf k) .table) w a
 
 module _ (k : Lasting) (a : Record (kindOf k)) (e : ℕ) where
   at-kind : (j : Kind) (b : Record j) (f : ℕ) → made j Taken b f ≡ made (kindOf k) Taken a e → (w : List Bool) → Coded (form j .table) w b → ByTable k a
@@ -117,20 +112,15 @@ module _ (k : Lasting) (a : Record (kindOf k)) where
       let r : history (turn x c .0) cs ≡ bs ++ t ∷ later = cc in
       told-table cs (turn x c .0) bs t later r w
 
-  -- ---- what is held from the opening on
+-- ---- what a slot holds after calls, where it held nothing before them
 
-  pub held-table : (cs : List Call) → HoldsOf k a (ends freshSlot cs) → ByTable k a × (cancelOf k a ≡ 0)
-  held-table cs q =
-      let s = holds-iff k a cs .0 q in
-      (told-table cs freshSlot (s .before) (s .feed) (s .later) (s .split) (s .gives .answers), s .gives .stays)
+pub alone-table : (k : Lasting) (a : Record (kindOf k)) (x : Slot) → x .held ≡ nothing → (cs : List Call)
+    → HoldsOf k a (ends x cs) → ByTable k a × (cancelOf k a ≡ 0)
+alone-table k a x e cs q =
+    let s = holds-when k a x e cs .0 q in
+    (told-table k a cs x (s .before) (s .feed) (s .later) (s .split) (s .gives .answers), s .gives .stays)
 
-  -- the same of one of the eight, in any run
-  pub holds-in-run : (n : ℕ) → n < 8 → (s : Slots) → Eight s → (cs xs : List Call) → only n cs ≡ opens n ∷ xs
-      → HoldsOf k a (slotAt (after s cs) n) ↔ Since k a (history freshSlot xs)
-  holds-in-run n h s e cs xs p = rw (alone n h s e cs xs p .1) (holds-iff k a xs)
-
-pub held-countable : (p : Packing) (cs : List Call) → HoldsOf regionWise p (ends freshSlot cs) → (1 ≤ p .count) × (p .count ≤ most)
-held-countable p cs q =
-    let d = held-table regionWise p cs q in
-    let t = regions.kept (d .0 .0) p (d .0 .1) in
-    (t .some (d .1), t .few)
+pub table-countable : (p : Packing) → ByTable regionWise p → cancelOf regionWise p ≡ 0 → Countable p
+table-countable p d z =
+    let t = regions.kept (d .0) p (d .1) in
+    record { some = t .some z; few = t .few }

@@ -4,5 +4,6 @@ pub mod Isolation
 pub mod HeldKinds
 pub mod Persistence
 pub mod HeldMessages
+pub mod Reachable
 pub mod Tied
 mod Examples

@@ -1,5 +1,4 @@
--- The persistence rules: a slot holds a record exactly where it came last of its kind and no call since has ended it; and every record
--- that is held is a message by its kind's table.
+-- The persistence rules: a slot holds a record exactly where it came last of its kind and no call since has ended it.
 -- Assumes nothing.
 use Prim.Native.Nat.{ℕ}
 use native.Mathlib.Omega.{arith}
@@ -307,9 +306,14 @@ module _ (k : Lasting) (a : Record (kindOf k)) where
       let m = one-more x b c cs in
       (λ q. m .0 (r .0 q), λ y. r .1 (m .1 y))
 
-  -- From its opening on, a slot holds a of kind k exactly where some feed was answered 0 with a, which is no cancel, and none of the later
-  -- calls ended it.
-  pub holds-iff : (cs : List Call) → HoldsOf k a (ends freshSlot cs) ↔ Since k a (history freshSlot cs)
-  holds-iff cs =
-      let r = holds-from cs freshSlot (λ o. fresh-holds) in
-      (λ q. ⊎-elim (λ s. s) (λ w. absurd (empty (freshSlot .held) fresh-holds (w .0))) (r .0 q), λ s. r .1 (inl s))
+-- A slot that held nothing holds a of kind k exactly where some feed since was answered 0 with a, which is no cancel, and none of the later
+-- calls ended it.
+pub holds-when : (k : Lasting) (a : Record (kindOf k)) (x : Slot) → x .held ≡ nothing → (cs : List Call)
+    → HoldsOf k a (ends x cs) ↔ Since k a (history x cs)
+holds-when k a x e cs =
+    let r = holds-from k a cs x (λ o. e) in
+    (λ q. ⊎-elim (λ s. s) (λ w. absurd (empty k a (x .held) e (w .0))) (r .0 q), λ s. r .1 (inl s))
+
+-- so it is from its opening on
+pub holds-iff : (k : Lasting) (a : Record (kindOf k)) (cs : List Call) → HoldsOf k a (ends freshSlot cs) ↔ Since k a (history freshSlot cs)
+holds-iff k a cs = holds-when k a freshSlot fresh-holds cs

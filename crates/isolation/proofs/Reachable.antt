@@ -1,0 +1,57 @@
+-- The eight slots after any calls from the start: what they hold, and that a held packing has a count that a table can be made of.
+-- Assumes nothing.
+use Prim.Native.Nat.{ℕ, _≤_, _<_}
+use mathlib.Core.Path.{_≡_, ap, _∙_}
+use mathlib.Core.Logic.{_↔_, _⊎_, inl, inr}
+use mathlib.Core.List.{List, [], _∷_}
+use Rattle.bits.proofs.BitLaws.{below}
+use Rattle.answers.specs.Listed.{Record}
+use Rattle.regions.specs.declared.Packing.{Packing}
+use Rattle.rows.proofs.TableLaws.{Countable}
+use Rattle.slots.specs.Slots.{Eight, start, slotAt, closedSlot, freshSlot}
+use Rattle.slots.specs.declared.Slot.{Slot}
+use Rattle.slots.specs.declared.Slots.{Slots}
+use Rattle.slots.proofs.Laws.{start-eight, start-closed, slot-past, closed-holds}
+use Rattle.isolation.specs.Runs.{Call, opens, after, only, ends}
+use Rattle.isolation.specs.Lasting.{Lasting, regionWise, kindOf, cancelOf, ByTable, HoldsOf, history, Since}
+use Rattle.isolation.proofs.Isolation.{factors, alone, eight-after}
+use Rattle.isolation.proofs.Persistence.{holds-when, holds-iff}
+use Rattle.isolation.proofs.HeldMessages.{alone-table, table-countable}
+
+-- what one of the eight is after them: what its own calls leave of a closed slot
+own-calls : (cs : List Call) (n : ℕ) → n < 8 → slotAt (after start cs) n ≡ ends closedSlot (only n cs)
+own-calls cs n h = factors n h cs start start-eight .1 ∙ ap (λ (x : Slot). ends x (only n cs)) (start-closed n)
+
+-- a slot, and a closed one past the eighth, is what some calls leave of a closed one
+some-calls : (cs : List Call) (n : ℕ) → (xs : List Call) × (slotAt (after start cs) n ≡ ends closedSlot xs)
+some-calls cs n = go (below n 8)
+  where
+    go : (n < 8) ⊎ (8 ≤ n) → (xs : List Call) × (slotAt (after start cs) n ≡ ends closedSlot xs)
+    go (inl h) = (only n cs, own-calls cs n h)
+    go (inr h) = ([], slot-past (after start cs) n (eight-after cs start start-eight) h)
+
+-- ---- what they hold
+
+pub holds-from-start : (k : Lasting) (a : Record (kindOf k)) (cs : List Call) (n : ℕ) → n < 8
+    → HoldsOf k a (slotAt (after start cs) n) ↔ Since k a (history closedSlot (only n cs))
+holds-from-start k a cs n h = rw (own-calls cs n h) (holds-when k a closedSlot closed-holds (only n cs))
+
+-- the same since its opening, from any eight slots
+pub holds-in-run : (k : Lasting) (a : Record (kindOf k)) (n : ℕ) → n < 8 → (s : Slots) → Eight s → (cs xs : List Call) → only n cs ≡ opens n ∷ xs
+    → HoldsOf k a (slotAt (after s cs) n) ↔ Since k a (history freshSlot xs)
+holds-in-run k a n h s e cs xs p = rw (alone n h s e cs xs p .1) (holds-iff k a xs)
+
+-- each record is one that its table gives, and no cancel
+pub held-table : (k : Lasting) (a : Record (kindOf k)) (cs : List Call) (n : ℕ) → HoldsOf k a (slotAt (after start cs) n) → ByTable k a × (cancelOf k a ≡ 0)
+held-table k a cs n q = let x = some-calls cs n in alone-table k a closedSlot closed-holds (x .0) (rw (x .1) at q)
+
+-- and of kind 155 it has from 1 to 16 regions
+pub held-count : (p : Packing) (cs : List Call) (n : ℕ) → HoldsOf regionWise p (slotAt (after start cs) n) → (1 ≤ p .count) × (p .count ≤ 16)
+held-count p cs n q = let d = held-table regionWise p cs n q in let c = table-countable p (d .0) (d .1) in (c .some, c .few)
+
+-- so a table call on such slots never meets a held count of 0 or above the limit
+pub held-countable : (cs : List Call) (n : ℕ) → slotAt (after start cs) n .held .regions .on ≡ 1 → Countable (slotAt (after start cs) n .held .regions .value)
+held-countable cs n e =
+    let p : Packing = slotAt (after start cs) n .held .regions .value in
+    let c = held-count p cs n (ap (λ (on : ℕ). record { on = on; value = p }) e) in
+    record { some = c .0; few = c .1 }
