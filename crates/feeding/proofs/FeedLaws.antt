@@ -4,7 +4,7 @@
 use Prim.Native.Nat.{ℕ}
 use native.Mathlib.Omega.{arith}
 use mathlib.Core.Path.{_≡_, refl, sym, ap, _∙_}
-use mathlib.Core.Logic.{_≢_, _↔_, inl, inr}
+use mathlib.Core.Logic.{_≢_, _↔_, inr}
 use mathlib.Core.Bool.{Bool, true, false}
 use mathlib.Core.List.{List}
 use lib.ListN.{take}
@@ -18,7 +18,6 @@ use Rattle.answers.specs.Listed.{Record, form, named, readingOf}
 use Rattle.answers.specs.Answer.{numberOf, answerFor}
 use Rattle.reader.specs.Reader.{sized, cut, answered, answerTo}
 use Rattle.answers.specs.declared.kind.Kind.{Kind}
-use Rattle.answers.specs.declared.kind.Kind.the-variants as kinds
 use Rattle.answers.specs.declared.kind.Named.{Named}
 use Rattle.answers.specs.declared.kind.Named.the-variants.{Listed, Unlisted}
 use Rattle.answers.specs.declared.Answer.{Answer}
@@ -27,13 +26,13 @@ use Rattle.answers.specs.declared.Outcome.the-variants.{Taken, SetAside, Refuse
 use Rattle.reader.proofs.Demand2.{one-of, taken-when, aside-when, stopped-when, tail-when}
 use Rattle.reader.proofs.Numbers.{numberIn, Call, call, unlisted, oversized, payload}
 use Rattle.format.specs.Syntax.{if_then_else_}
-use Rattle.slots.specs.Slots.{Eight, slotAt, withSlot, isOpen, holding, replaced}
+use Rattle.slots.specs.Slots.{Eight, slotAt, withSlot, isOpen, holding, Shut, ButFor, replaced}
 use Rattle.held.specs.declared.Held.{Held}
 use Rattle.slots.specs.declared.Slot.{Slot}
 use Rattle.slots.specs.declared.Slots.{Slots}
-use Rattle.slots.proofs.Laws.{ButFor, Shut, shut-past, replaced-slots, replaced-there, replaced-but-for}
+use Rattle.slots.proofs.Laws.{apart, shut-off, replaced-slots, replaced-there, replaced-but-for}
 use Rattle.feeding.specs.declared.Fed.{Fed}
-use Rattle.feeding.specs.Feed.{heldBy, heldAfter, shutAs, shutAnswer, fedTo}
+use Rattle.feeding.specs.Feed.{Unheld, alpha, depth, registered, unregistered, heldBy, heldAfter, shutAs, shutAnswer, fedTo}
 
 -- ---- what leaves the held records
 
@@ -47,13 +46,7 @@ untaken-keeps h a = go (a .outcome)
     go SetAside d = refl
     go (Refused r) d = refl
 
--- kinds 165, 177, 4 and 5 are read and not held
-pub data Unheld : Kind → Type 0 where
-  alpha : Unheld kinds.Alpha
-  depth : Unheld kinds.Depth
-  registered : Unheld kinds.Registered
-  unregistered : Unheld kinds.Unregistered
-
+-- nor does a kind that is not held
 pub unheld-keeps : (h : Held) (k : Kind) (x : Reading (Record k)) → Unheld k → heldAfter h (answerFor k x) ≡ h
 unfolding heldAfter
 unheld-keeps h k (setAside a e) u = refl
@@ -140,14 +133,7 @@ module _ (s : Slots) (n kind size : ℕ) (bytes : List ℕ) where
   fed-8 e = rw fed-answer (go (isOpen (slotAt s n)) refl)
     where
       go : (b : Bool) → isOpen (slotAt s n) ≡ b → (numberOf (if b then answerTo kind size bytes else shutAnswer kind) ≡ 8) ↔ Shut s n
-      go true o = (λ h. absurd (answer-not-8 kind size bytes h), λ h. absurd (never h))
-        where
-          off : isOpen (slotAt s n) ≡ false → ⊥
-          off f = let z : _≡_ {A = ℕ} 0 1 = cc in omega arith
-
-          never : Shut s n → ⊥
-          never (inl l) = off (shut-past s n e l)
-          never (inr f) = off f
+      go true o = (λ h. absurd (answer-not-8 kind size bytes h), λ h. absurd (apart o (shut-off s n e h)))
       go false o = (λ h. inr o, λ h. shut-8 kind)
 
   keeps : heldAfter (slotAt s n .held) (answerTo kind size bytes) ≡ slotAt s n .held → fedTo s n kind size bytes .slots ≡ s

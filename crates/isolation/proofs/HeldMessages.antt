@@ -11,7 +11,7 @@ use Rattle.format.specs.Coded.{Coded}
 use Rattle.format.specs.Whole.{Reading, taken, setAside, refused as refused-reading}
 use Rattle.regions.specs.declared.Packing.{Packing}
 use Rattle.regions.proofs.Kept as regions
-use Rattle.rows.proofs.TableLaws.{Countable}
+use Rattle.rows.specs.Rows.{Countable}
 use Rattle.answers.specs.Listed.{Record, form, number, named, readingOf}
 use Rattle.answers.specs.Answer.{numberOf, made, answerFor}
 use Rattle.reader.specs.Reader.{sized, cut, answered, answerTo}
@@ -57,7 +57,7 @@ module _ (k : Lasting) (a : Record (kindOf k)) (e : ℕ) where
       (sym (one-kind j (kindOf k) (same-number j (kindOf k) b a f e q)))
       (λ c p g. (w, subst (Coded (form (kindOf k) .table) w) (same-value k c a f e p) g)) b q d
 
-  pub by-table : (kind size : ℕ) (bytes : List ℕ) → answerTo kind size bytes ≡ made (kindOf k) Taken a e → ByTable k a
+  by-table : (kind size : ℕ) (bytes : List ℕ) → answerTo kind size bytes ≡ made (kindOf k) Taken a e → ByTable k a
   unfolding answerTo
   by-table kind size bytes = go (named kind)
     where

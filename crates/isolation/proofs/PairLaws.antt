@@ -9,7 +9,7 @@ use mathlib.Core.List.{List, _++_}
 use lib.ListN.{length, take}
 use Rattle.bits.specs.Refusals.{bySlot}
 use Rattle.bits.specs.Bits.{bitsOf}
-use Rattle.format.specs.Whole.{Reading, taken, setAside, refused, given, whole, Follows}
+use Rattle.format.specs.Whole.{given, whole, Follows}
 use Rattle.format.proofs.Whole.{whole-holds, varied-whole}
 use Rattle.rows.specs.Rows.{refuses}
 use Rattle.answers.specs.Listed.{Record, form, named, readingOf}
@@ -30,23 +30,24 @@ use Rattle.slots.specs.declared.Slot.{Slot}
 use Rattle.feeding.specs.Feed.{heldAfter, shutAnswer}
 use Rattle.tables.specs.Table.{tableOfHeld}
 use Rattle.isolation.specs.Runs.{Call, Reply, read, tabled, turn, ends, replies, unextended, blind, blinds}
-use Rattle.isolation.specs.Pairs.{Message, Varied, Pair, same, cut, varied, lent, Pairs, end, both}
+use Rattle.isolation.specs.Pairs.{IsMessage, VariedPayload, Pair, same, cut, varied, lent, Pairs, end, both}
 
 -- ---- which payloads vary: exactly those answered 0 or 20
-
-number-in : (k : Kind) (x : Reading (Record k)) → numberOf (answerFor k x) ≡ numberIn x
-number-in k (taken a e) = refl
-number-in k (setAside a e) = refl
-number-in k (refused r) = refl
 
 module _ (kind size : ℕ) (bytes : List ℕ) (k : Kind) (listed : named kind ≡ Listed k) where
   abbrev number : ℕ
   number = numberOf (answerTo kind size bytes)
 
   within : size ≤ 8192 → size ≤ length bytes → number ≡ numberIn (readingOf k (take size bytes))
-  within b c = ap numberOf (to-payload kind size bytes k listed b c) ∙ number-in k (readingOf k (take size bytes))
+  within b c = go (call kind size bytes)
+    where
+      go : numbers.Call kind size bytes → number ≡ numberIn (readingOf k (take size bytes))
+      go (numbers.unlisted e m) = let z : _≡_ {A = ℕ} 0 1 = cc in absurd (omega arith)
+      go (numbers.oversized j e (inl l) m) = absurd (omega arith)
+      go (numbers.oversized j e (inr l) m) = absurd (omega arith)
+      go (numbers.payload j e b c m) = let same : j ≡ k = cc in subst (λ i. number ≡ numberIn (readingOf i (take size bytes))) same m
 
-  message-of : size ≤ 8192 → size ≤ length bytes → (number ≡ 0) ⊎ (number ≡ 20) → Message k size bytes
+  message-of : size ≤ 8192 → size ≤ length bytes → (number ≡ 0) ⊎ (number ≡ 20) → IsMessage k size bytes
   message-of b c (inl z) =
       let r = number-0 (readingOf k (take size bytes)) .0 (sym (within b c) ∙ z) in
       record { limit = b; long = c; value = r .0; extension = r .1; holds = taken-when k (take size bytes) (r .0) (r .1) .0 (r .2) .0 }
@@ -54,24 +55,28 @@ module _ (kind size : ℕ) (bytes : List ℕ) (k : Kind) (listed : named kind �
       let r = number-20 (readingOf k (take size bytes)) .0 (sym (within b c) ∙ z) in
       record { limit = b; long = c; value = r .0; extension = r .1; holds = aside-when k (take size bytes) (r .0) (r .1) .0 (r .2) .0 }
 
-  pub vary-iff : ((number ≡ 0) ⊎ (number ≡ 20)) ↔ Message k size bytes
-  vary-iff = (λ z. to z (call kind size bytes), back)
+  varies : ((number ≡ 0) ⊎ (number ≡ 20)) ↔ IsMessage k size bytes
+  varies = (λ z. to z (call kind size bytes), back)
     where
       not-either : {i : ℕ} → number ≡ i → 1 ≤ i → i ≤ 2 → (number ≡ 0) ⊎ (number ≡ 20) → ⊥
       not-either e l m (inl z) = omega arith
       not-either e l m (inr z) = omega arith
 
-      to : (number ≡ 0) ⊎ (number ≡ 20) → numbers.Call kind size bytes → Message k size bytes
+      to : (number ≡ 0) ⊎ (number ≡ 20) → numbers.Call kind size bytes → IsMessage k size bytes
       to z (numbers.unlisted e m) = absurd (not-either m (omega arith) (omega arith) z)
       to z (numbers.oversized j e c m) = absurd (not-either m (omega arith) (omega arith) z)
       to z (numbers.payload j e b c m) = message-of b c z
 
-      back : Message k size bytes → (number ≡ 0) ⊎ (number ≡ 20)
+      back : IsMessage k size bytes → (number ≡ 0) ⊎ (number ≡ 20)
       back d = go (form k .aside (d .value)) refl
         where
           go : (t : Bool) → form k .aside (d .value) ≡ t → (number ≡ 0) ⊎ (number ≡ 20)
           go true t = inr (within (d .limit) (d .long) ∙ ap numberIn (aside-when k (take size bytes) (d .value) (d .extension) .1 (d .holds, t)))
           go false t = inl (within (d .limit) (d .long) ∙ ap numberIn (taken-when k (take size bytes) (d .value) (d .extension) .1 (d .holds, t)))
+
+pub vary-iff : (kind size : ℕ) (bytes : List ℕ) (k : Kind) → named kind ≡ Listed k
+    → ((numberOf (answerTo kind size bytes) ≡ 0) ⊎ (numberOf (answerTo kind size bytes) ≡ 20)) ↔ IsMessage k size bytes
+vary-iff kind size bytes k listed = varies kind size bytes k listed
 
 -- ---- the answers
 
@@ -79,7 +84,7 @@ same-but-extension : (k : Kind) (b : Bool) (a : Record k) (e e′ : ℕ) → une
 same-but-extension k true a e e′ = refl
 same-but-extension k false a e e′ = refl
 
-varied-answer : (kind size : ℕ) (bytes : List ℕ) (size′ : ℕ) (bytes′ : List ℕ) → Varied kind size bytes size′ bytes′
+varied-answer : (kind size : ℕ) (bytes : List ℕ) (size′ : ℕ) (bytes′ : List ℕ) → VariedPayload kind size bytes size′ bytes′
     → unextended (answerTo kind size bytes) ≡ unextended (answerTo kind size′ bytes′)
 unfolding readingOf
 varied-answer kind size bytes size′ bytes′ v =

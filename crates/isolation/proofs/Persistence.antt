@@ -24,9 +24,9 @@ use Rattle.slots.specs.Slots.{isOpen, holding, freshSlot, closedSlot}
 use Rattle.held.specs.declared.Held.{Held}
 use Rattle.slots.specs.declared.Slot.{Slot}
 use Rattle.slots.specs.declared.Answer.the-variants.{Done}
-use Rattle.slots.proofs.Laws.{fresh-open, fresh-holds, closed-holds, holding-open, holding-holds}
-use Rattle.feeding.specs.Feed.{heldAfter, shutAnswer}
-use Rattle.feeding.proofs.FeedLaws.{untaken-keeps, Unheld, alpha, depth, registered, unregistered, unheld-keeps, shut-8}
+use Rattle.slots.proofs.Laws.{apart, fresh-open, fresh-holds, closed-holds, holding-open, holding-holds}
+use Rattle.feeding.specs.Feed.{Unheld, alpha, depth, registered, unregistered, heldAfter, shutAnswer}
+use Rattle.feeding.proofs.FeedLaws.{untaken-keeps, unheld-keeps, shut-8}
 use Rattle.isolation.specs.Runs.{Call, opens, closes, sequences, pictures, feeds, tables, Reply, said, shown, read, tabled, refused, turn, ends}
 use Rattle.isolation.specs.Lasting.{Lasting, framePacking, orientation, equirectangular, rotation, regionWise, kindOf, cancelOf, persistenceOf, Marked, heldOf, HoldsOf, Told, history, Answers, Gives, Leaves, Leave, Since}
 use Rattle.isolation.proofs.HeldKinds.{none, nothing-of, kept-of, taken-of, other-of, same-number, same-kind, unheld-apart, same-value}
@@ -71,14 +71,11 @@ came kind size bytes = go (named kind)
 abbrev Bare : Slot → Type 0
 Bare x = isOpen x ≡ false → x .held ≡ nothing
 
-apart : true ≡ false → ⊥
-apart h = let z : _≡_ {A = ℕ} 0 1 = cc in omega arith
-
 fresh-bare : Bare freshSlot
-fresh-bare o = absurd (apart (sym fresh-open ∙ o))
+fresh-bare o = absurd (apart fresh-open o)
 
 holding-bare : (x : Slot) (h : Held) → isOpen x ≡ true → Bare (holding x h)
-holding-bare x h o f = absurd (apart (sym o ∙ sym (holding-open x h) ∙ f))
+holding-bare x h o f = absurd (apart (holding-open x h ∙ o) f)
 
 abbrev BareAfter : Slot × Reply → Type 0
 BareAfter w = Bare (w .0)
@@ -174,7 +171,7 @@ module _ (k : Lasting) (a : Record (kindOf k)) where
         go false q =
             let d : number (kindOf k) ≢ number (kindOf j) = eqb-false _ _ q in
             untouched
-            (ap (λ y. heldOf k (heldAfter h y)) m ∙ other-of k j h b e (λ s. d (ap (λ i. number (kindOf i)) s)))
+            (ap (λ y. heldOf k (heldAfter h y)) m ∙ other-of k j h b e d)
             (λ c f n. d (same-number (kindOf k) (kindOf j) c b f e (sym n ∙ m)))
 
   -- ---- one call on a slot

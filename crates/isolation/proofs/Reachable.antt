@@ -7,7 +7,7 @@ use mathlib.Core.List.{List, [], _∷_}
 use Rattle.bits.proofs.BitLaws.{below}
 use Rattle.answers.specs.Listed.{Record}
 use Rattle.regions.specs.declared.Packing.{Packing}
-use Rattle.rows.proofs.TableLaws.{Countable}
+use Rattle.rows.specs.Rows.{Countable}
 use Rattle.slots.specs.Slots.{Eight, start, slotAt, closedSlot, freshSlot}
 use Rattle.slots.specs.declared.Slot.{Slot}
 use Rattle.slots.specs.declared.Slots.{Slots}

@@ -16,7 +16,7 @@ use Rattle.slots.specs.declared.Slots.{Slots}
 use Rattle.isolation.specs.Runs.{Call, feeds, tables, said, after, repliesAt, ends, replies, blinds}
 
 -- Within the size limits, the payload's bits are a message of kind k and what may follow it: the payload is taken or set aside.
-pub record Message (k : Kind) (size : ℕ) (bytes : List ℕ) : Type 0 where
+pub record IsMessage (k : Kind) (size : ℕ) (bytes : List ℕ) : Type 0 where
   pub limit : size ≤ 8192
   pub long : size ≤ length bytes
   pub value : Record k
@@ -25,11 +25,11 @@ pub record Message (k : Kind) (size : ℕ) (bytes : List ℕ) : Type 0 where
 
 -- The first payload is a message of a kind that can have a tail. The second, of whatever size within the limits, is that message with
 -- other ignored bits and other reserved guard band codes in place of reserved ones, and then any end that is permitted.
-pub record Varied (kind size : ℕ) (bytes : List ℕ) (size′ : ℕ) (bytes′ : List ℕ) : Type 0 where
+pub record VariedPayload (kind size : ℕ) (bytes : List ℕ) (size′ : ℕ) (bytes′ : List ℕ) : Type 0 where
   pub k : Kind
   pub listed : named kind ≡ Listed k
   pub tailed : form k .tailed ≡ true
-  pub first : Message k size bytes
+  pub first : IsMessage k size bytes
   pub limit′ : size′ ≤ 8192
   pub long′ : size′ ≤ length bytes′
   pub message′ : List Bool
@@ -44,7 +44,7 @@ pub data Pair : Call → Call → Type 0 where
   same : (c : Call) → Pair c c
   cut : (n kind size : ℕ) (bytes bytes′ : List ℕ) → size ≤ length bytes → size ≤ length bytes′ → take size bytes ≡ take size bytes′
       → Pair (feeds n kind size bytes) (feeds n kind size bytes′)
-  varied : (n kind size : ℕ) (bytes : List ℕ) (size′ : ℕ) (bytes′ : List ℕ) → Varied kind size bytes size′ bytes′
+  varied : (n kind size : ℕ) (bytes : List ℕ) (size′ : ℕ) (bytes′ : List ℕ) → VariedPayload kind size bytes size′ bytes′
       → Pair (feeds n kind size bytes) (feeds n kind size′ bytes′)
   lent : (n : ℕ) (rows rows′ : List ℕ) → length rows ≡ length rows′ → Pair (tables n rows) (tables n rows′)
 

@@ -1,10 +1,12 @@
 -- The region table: 01, "Region table", with the offsets of H.274 8.15.5.2.
-use Prim.Native.Nat.{ℕ, _+_, _*_, _/_}
+use Prim.Native.Nat.{ℕ, _+_, _*_, _/_, _≤_, _<_}
+use mathlib.Core.Path.{_≡_}
+use mathlib.Core.Logic.{_⊎_}
 use mathlib.Core.Bool.{cond}
 use mathlib.Core.List.{List, [], _∷_, _++_}
 use lib.Dec.{leb}
 use lib.ListN.{length, take, drop}
-use Rattle.bits.specs.Refusals.{byTable, byRows}
+use Rattle.bits.specs.Refusals.{numberOf, byTable, byRows}
 use Rattle.bits.specs.declared.refusal.Refusal.{Refusal}
 use Rattle.regions.specs.List.{most}
 use Rattle.region.specs.declared.Region.{Region}
@@ -68,7 +70,26 @@ rowCount p Whole = p .count
 rowCount p Beside = 2 * p .count
 rowCount p Below = 2 * p .count
 
+-- the record has a region, and no more than it can hold
+pub record Countable (p : Packing) : Type 0 where
+  pub some : 1 ≤ p .count
+  pub few : p .count ≤ most
+
+-- it has none, or more
+abbrev pub Uncountable : Packing → Type 0
+Uncountable p = (p .count ≡ 0) ⊎ (most < p .count)
+
 -- ---- the call
+
+-- the number that a caller gets: 0 for rows
+abbrev pub tabledNumber : Tabled → ℕ
+tabledNumber (Rows n) = 0
+tabledNumber (Refused why) = numberOf why
+
+-- how many rows were written
+abbrev pub tabledRows : Tabled → ℕ
+tabledRows (Rows n) = n
+tabledRows (Refused why) = 0
 
 -- what a call answers and what it writes, which is nothing where it refuses
 pub record Table : Type 0 where
