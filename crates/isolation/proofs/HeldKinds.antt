@@ -135,35 +135,7 @@ other-of k j h a e d =
     let other : restored j h after k ≡ heldOf k after = rw (ne-eqb (number (kindOf k)) (number (kindOf j)) d) in
     sym other ∙ sym (of-five k (restored j h after)) ∙ ap (heldOf k) (same-five j h a e)
 
--- ---- an answer has one kind, and one record
-
-abbrev tag : Message → ℕ
-tag message.Nothing = 0
-tag (message.FramePacking a) = 45
-tag (message.Orientation a) = 47
-tag (message.Equirectangular a) = 150
-tag (message.Rotation a) = 154
-tag message.RegionWise = 155
-tag (message.Alpha a) = 165
-tag message.Depth = 177
-tag (message.Registered a) = 4
-tag message.Unregistered = 5
-
-tag-of : (k : Kind) (a : Record k) → tag (messageOf k a) ≡ number k
-tag-of kinds.FramePacking a = refl
-tag-of kinds.Orientation a = refl
-tag-of kinds.Equirectangular a = refl
-tag-of kinds.Rotation a = refl
-tag-of kinds.RegionWise a = refl
-tag-of kinds.Alpha a = refl
-tag-of kinds.Depth a = refl
-tag-of kinds.Registered a = refl
-tag-of kinds.Unregistered a = refl
-
-pub same-number : (k j : Kind) (a : Record k) (b : Record j) (e f : ℕ) → made k Taken a e ≡ made j Taken b f → number k ≡ number j
-same-number k j a b e f h = sym (tag-of k a) ∙ ap (λ (x : Answer). tag (x .message)) h ∙ tag-of j b
-
--- numbers tell the five apart, and from the four that are not held
+-- ---- numbers tell the five apart, and from the four that are not held
 abbrev numbered : ℕ → Unit {0} ⊎ Lasting
 numbered n =
     if eqb n 45 then inr framePacking
@@ -194,10 +166,3 @@ unheld-apart j u k e =
     let q = sym (unnumbered j u) ∙ ap numbered e ∙ numbered-of k in
     let z : _≡_ {A = ℕ} 0 1 = cc in
     omega arith
-
-pub same-value : (k : Lasting) (a b : Record (kindOf k)) (e f : ℕ) → made (kindOf k) Taken a e ≡ made (kindOf k) Taken b f → a ≡ b
-same-value framePacking a b e f h = let m : message.FramePacking a ≡ message.FramePacking b = ap (λ (x : Answer). x .message) h in cc
-same-value orientation a b e f h = let m : message.Orientation a ≡ message.Orientation b = ap (λ (x : Answer). x .message) h in cc
-same-value equirectangular a b e f h = let m : message.Equirectangular a ≡ message.Equirectangular b = ap (λ (x : Answer). x .message) h in cc
-same-value rotation a b e f h = let m : message.Rotation a ≡ message.Rotation b = ap (λ (x : Answer). x .message) h in cc
-same-value regionWise a b e f h = ap (λ (x : Answer). x .regions) h

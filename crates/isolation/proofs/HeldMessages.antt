@@ -6,22 +6,16 @@ use native.Mathlib.Omega.{arith}
 use mathlib.Core.Path.{_≡_, refl, sym, ap, _∙_, subst}
 use mathlib.Core.Bool.{Bool, true, false}
 use mathlib.Core.List.{List, [], _∷_, _++_}
-use lib.ListN.{take}
 use Rattle.format.specs.Coded.{Coded}
-use Rattle.format.specs.Whole.{Reading, taken, setAside, refused as refused-reading}
 use Rattle.regions.specs.declared.Packing.{Packing}
 use Rattle.regions.proofs.Kept as regions
 use Rattle.rows.specs.Rows.{Countable}
-use Rattle.answers.specs.Listed.{Record, form, number, named, readingOf}
-use Rattle.answers.specs.Answer.{numberOf, made, answerFor}
-use Rattle.reader.specs.Reader.{sized, cut, answered, answerTo}
-use Rattle.answers.specs.declared.kind.Kind.{Kind}
-use Rattle.answers.specs.declared.kind.Kind.the-variants as kinds
-use Rattle.answers.specs.declared.kind.Named.{Named}
-use Rattle.answers.specs.declared.kind.Named.the-variants.{Listed, Unlisted}
+use Rattle.answers.specs.Listed.{Record}
+use Rattle.answers.specs.Answer.{numberOf, made}
+use Rattle.reader.specs.Reader.{answerTo}
 use Rattle.answers.specs.declared.Answer.{Answer}
 use Rattle.answers.specs.declared.Outcome.the-variants.{Taken}
-use Rattle.reader.proofs.Demand2.{taken-when}
+use Rattle.reader.proofs.Demand2.{answer-0}
 use Rattle.format.specs.Syntax.{if_then_else_}
 use Rattle.held.specs.Held.{nothing}
 use Rattle.slots.specs.Slots.{isOpen}
@@ -30,51 +24,13 @@ use Rattle.feeding.specs.Feed.{shutAnswer}
 use Rattle.feeding.proofs.FeedLaws.{shut-8}
 use Rattle.isolation.specs.Runs.{Call, opens, closes, sequences, pictures, feeds, tables, Reply, read, turn, ends}
 use Rattle.isolation.specs.Lasting.{Lasting, regionWise, kindOf, cancelOf, ByTable, HoldsOf, Told, history, Answers}
-use Rattle.isolation.proofs.HeldKinds.{same-number, same-value}
 use Rattle.isolation.proofs.Persistence.{Unread, unread, holds-when}
 
--- ---- an answer of 0 comes of a message by the table
-
-named-of : (j : Kind) → named (number j) ≡ Listed j
-unfolding named
-named-of kinds.FramePacking = refl
-named-of kinds.Orientation = refl
-named-of kinds.Equirectangular = refl
-named-of kinds.Rotation = refl
-named-of kinds.RegionWise = refl
-named-of kinds.Alpha = refl
-named-of kinds.Depth = refl
-named-of kinds.Registered = refl
-named-of kinds.Unregistered = refl
-
-one-kind : (j i : Kind) → number j ≡ number i → j ≡ i
-one-kind j i e = let l : Listed j ≡ Listed i = sym (named-of j) ∙ ap named e ∙ named-of i in cc
-
-module _ (k : Lasting) (a : Record (kindOf k)) (e : ℕ) where
-  at-kind : (j : Kind) (b : Record j) (f : ℕ) → made j Taken b f ≡ made (kindOf k) Taken a e → (w : List Bool) → Coded (form j .table) w b → ByTable k a
-  at-kind j b f q w d =
-      subst (λ i. (c : Record i) → made i Taken c f ≡ made (kindOf k) Taken a e → Coded (form i .table) w c → ByTable k a)
-      (sym (one-kind j (kindOf k) (same-number j (kindOf k) b a f e q)))
-      (λ c p g. (w, subst (Coded (form (kindOf k) .table) w) (same-value k c a f e p) g)) b q d
-
-  by-table : (kind size : ℕ) (bytes : List ℕ) → answerTo kind size bytes ≡ made (kindOf k) Taken a e → ByTable k a
-  unfolding answerTo
-  by-table kind size bytes = go (named kind)
-    where
-      of-reading : (j : Kind) (x : Reading (Record j)) → readingOf j (take size bytes) ≡ x → answerFor j x ≡ made (kindOf k) Taken a e → ByTable k a
-      of-reading j (taken b f) h q = let d = taken-when j (take size bytes) b f .0 h .0 in at-kind j b f q (d .message) (d .coded)
-      of-reading j (setAside b f) h q = absurd (omega (arith, ap numberOf q))
-      of-reading j (refused-reading r) h q = let o = ap (λ (x : Answer). x .outcome) q in let z : _≡_ {A = ℕ} 0 1 = cc in absurd (omega arith)
-
-      at-size : (j : Kind) (t : Bool) → answerFor j (cut j t size bytes) ≡ made (kindOf k) Taken a e → ByTable k a
-      at-size j true q = of-reading j (readingOf j (take size bytes)) refl q
-      at-size j false q = absurd (omega (arith, ap numberOf q))
-
-      go : (x : Named) → answered x size bytes ≡ made (kindOf k) Taken a e → ByTable k a
-      go Unlisted q = absurd (omega (arith, ap numberOf q))
-      go (Listed j) q = at-size j (sized size bytes) q
-
 -- ---- a reply that says so
+
+-- an answer of 0 comes of a message by the table
+by-table : (k : Lasting) (a : Record (kindOf k)) (e kind size : ℕ) (bytes : List ℕ) → answerTo kind size bytes ≡ made (kindOf k) Taken a e → ByTable k a
+by-table k a e kind size bytes h = let d = answer-0 kind size bytes (kindOf k) a e .0 h .1 in (d .message, d .coded)
 
 module _ (k : Lasting) (a : Record (kindOf k)) where
   abbrev Answering : Slot × Reply → Type 0

@@ -7,15 +7,17 @@ use mathlib.Core.Logic.{_≢_, _↔_, _⊎_, inl, inr, ⊎-elim}
 use mathlib.Core.Bool.{Bool, true, false}
 use mathlib.Core.List.{List, [], _∷_, _++_}
 use lib.Dec.{eqb}
+use lib.ListN.{take}
+use Rattle.bits.specs.Refusals.{bySize}
 use borrow.Author.Tests.{eq-eqb, ne-eqb, eqb-true, eqb-false}
 use Rattle.format.specs.Whole.{Reading, taken, setAside, refused as refused-reading}
-use Rattle.answers.specs.Listed.{Record, number, named}
-use Rattle.answers.specs.Answer.{numberOf, made, answerFor, unknown}
-use Rattle.reader.specs.Reader.{sized, cut, answered, answerTo}
+use Rattle.answers.specs.Listed.{Record, number, readingOf}
+use Rattle.answers.specs.Answer.{numberOf, made, answerFor, refusedAs, unknown}
+use Rattle.reader.specs.Reader.{answerTo}
+use Rattle.answers.proofs.KindLaws.{made-kind, made-same}
+use Rattle.reader.proofs.Calls as answers
 use Rattle.answers.specs.declared.kind.Kind.{Kind}
 use Rattle.answers.specs.declared.kind.Kind.the-variants as kinds
-use Rattle.answers.specs.declared.kind.Named.{Named}
-use Rattle.answers.specs.declared.kind.Named.the-variants.{Listed, Unlisted}
 use Rattle.answers.specs.declared.Answer.{Answer}
 use Rattle.answers.specs.declared.Outcome.the-variants.{Taken}
 use Rattle.format.specs.Syntax.{if_then_else_}
@@ -29,7 +31,7 @@ use Rattle.feeding.specs.Feed.{Unheld, alpha, depth, registered, unregistered, 
 use Rattle.feeding.proofs.FeedLaws.{untaken-keeps, unheld-keeps, shut-8}
 use Rattle.isolation.specs.Runs.{Call, opens, closes, sequences, pictures, feeds, tables, Reply, said, shown, read, tabled, refused, turn, ends}
 use Rattle.isolation.specs.Lasting.{Lasting, framePacking, orientation, equirectangular, rotation, regionWise, kindOf, cancelOf, persistenceOf, Marked, heldOf, HoldsOf, Told, history, Answers, Gives, Leaves, Leave, Since}
-use Rattle.isolation.proofs.HeldKinds.{none, nothing-of, kept-of, taken-of, other-of, same-number, same-kind, unheld-apart, same-value}
+use Rattle.isolation.proofs.HeldKinds.{none, nothing-of, kept-of, taken-of, other-of, same-kind, unheld-apart}
 
 -- ---- what an answer says of the five kinds
 
@@ -43,7 +45,7 @@ untaken-came x d = passed (λ h. untaken-keeps h x d) (λ k b e q. d (ap (λ (y 
 
 unheld-came : (j : Kind) → Unheld j → (b : Record j) (e : ℕ) → Came (answerFor j (taken b e))
 unheld-came j u b e =
-    passed (λ h. unheld-keeps h j (taken b e) u) (λ k c f q. unheld-apart j u k (same-number j (kindOf k) b c e f q))
+    passed (λ h. unheld-keeps h j (taken b e) u) (λ k c f q. unheld-apart j u k (ap number (made-kind j (kindOf k) Taken Taken b c e f q)))
 
 reading-came : (j : Kind) (x : Reading (Record j)) → Came (answerFor j x)
 reading-came j (setAside b e) = untaken-came _ (λ q. let z : _≡_ {A = ℕ} 0 1 = cc in omega arith)
@@ -59,12 +61,12 @@ reading-came kinds.Registered (taken b e) = unheld-came kinds.Registered registe
 reading-came kinds.Unregistered (taken b e) = unheld-came kinds.Unregistered unregistered b e
 
 came : (kind size : ℕ) (bytes : List ℕ) → Came (answerTo kind size bytes)
-unfolding answerTo
-came kind size bytes = go (named kind)
+came kind size bytes = go (answers.call kind size bytes)
   where
-    go : (x : Named) → Came (answered x size bytes)
-    go Unlisted = untaken-came unknown (λ q. let z : _≡_ {A = ℕ} 0 1 = cc in omega arith)
-    go (Listed j) = reading-came j (cut j (sized size bytes) size bytes)
+    go : answers.Call kind size bytes → Came (answerTo kind size bytes)
+    go (answers.unlisted f m) = subst Came (sym m) (untaken-came unknown (λ q. let z : _≡_ {A = ℕ} 0 1 = cc in omega arith))
+    go (answers.oversized j f o m) = subst Came (sym m) (untaken-came (refusedAs j bySize) (λ q. let z : _≡_ {A = ℕ} 0 1 = cc in omega arith))
+    go (answers.payload j w m) = subst Came (sym m) (reading-came j (readingOf j (take size bytes)))
 
 -- ---- a closed slot holds nothing, from the fresh one on
 
@@ -156,7 +158,7 @@ module _ (k : Lasting) (a : Record (kindOf k)) where
 
         back : Why → Here (heldAfter h x)
         back (inl w) =
-            let v : b ≡ a = same-value k b a e (w .0 .extension) (sym m ∙ as-made a (w .0)) in
+            let v : b ≡ a = made-same (kindOf k) Taken Taken b a e (w .0 .extension) (sym m ∙ as-made a (w .0)) .1 in
             now ∙ rw (eq-eqb (cancelOf k b) 0 (ap (cancelOf k) v ∙ w .1), v)
         back (inr w) = absurd (w .1 b (record { extension = e; is = ap read m }))
 
@@ -172,7 +174,7 @@ module _ (k : Lasting) (a : Record (kindOf k)) where
             let d : number (kindOf k) ≢ number (kindOf j) = eqb-false _ _ q in
             untouched
             (ap (λ y. heldOf k (heldAfter h y)) m ∙ other-of k j h b e d)
-            (λ c f n. d (same-number (kindOf k) (kindOf j) c b f e (sym n ∙ m)))
+            (λ c f n. d (ap number (made-kind (kindOf k) (kindOf j) Taken Taken c b f e (sym n ∙ m))))
 
   -- ---- one call on a slot
 

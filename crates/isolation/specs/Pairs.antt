@@ -7,9 +7,8 @@ use lib.ListN.{length, take}
 use Rattle.bits.specs.Bits.{bitsOf}
 use Rattle.format.specs.Whole.{Holds, Follows}
 use Rattle.format.specs.Varied.{Variation}
-use Rattle.answers.specs.Listed.{Record, form, named}
+use Rattle.answers.specs.Listed.{Record, form, number}
 use Rattle.answers.specs.declared.kind.Kind.{Kind}
-use Rattle.answers.specs.declared.kind.Named.the-variants.{Listed}
 use Rattle.slots.specs.Slots.{freshSlot, slotAt}
 use Rattle.slots.specs.declared.Answer.the-variants.{Done}
 use Rattle.slots.specs.declared.Slots.{Slots}
@@ -27,7 +26,7 @@ pub record IsMessage (k : Kind) (size : ℕ) (bytes : List ℕ) : Type 0 where
 -- other ignored bits and other reserved guard band codes in place of reserved ones, and then any end that is permitted.
 pub record VariedPayload (kind size : ℕ) (bytes : List ℕ) (size′ : ℕ) (bytes′ : List ℕ) : Type 0 where
   pub k : Kind
-  pub listed : named kind ≡ Listed k
+  pub listed : kind ≡ number k
   pub tailed : form k .tailed ≡ true
   pub first : IsMessage k size bytes
   pub limit′ : size′ ≤ 8192
