@@ -9,7 +9,6 @@ use denote.Triple.Clauses.{AtExit}
 use borrow.Fn.Kinds.{endedOf}
 use Rattle.bits.proofs.Determined.{Determines, DeterminesAll}
 use Rattle.lent.proofs.Stores.{same-left}
-use Rattle.host.specs.Slot.{Outcome}
 use Rattle.host.proofs.bruskelde_read.Kinds as read-kinds
 use Rattle.host.proofs.bruskelde_read.Reads as read-reads
 use Rattle.host.proofs.bruskelde_fields.Kinds as fields-kinds
@@ -67,4 +66,4 @@ abbrev pub lent : (κs : Lfts 1) → AtExit (endedOf 1 table-kinds.ps table-kind
 lent κs s = now (s .1 .1 .0)
 
 pub table-determined : DeterminesAll 1 table-kinds.ps table-kinds.r lent table-reads.Post
-table-determined κs a x y s t p q = let e = p ∙ sym q in (ap (λ (o : Outcome). o .answer) e, ap (λ (o : Outcome). o .lent) e)
+table-determined κs a x y s t p q = same-left (p ∙ sym q)

@@ -5,9 +5,10 @@ use mathlib.Core.Logic.{_⊎_}
 use mathlib.Core.Bool.{cond}
 use mathlib.Core.List.{List, [], _∷_, _++_}
 use lib.Dec.{leb}
-use lib.ListN.{length, take, drop}
+use lib.ListN.{take}
 use Rattle.bits.specs.Refusals.{numberOf, byTable, byRows}
 use Rattle.bits.specs.declared.refusal.Refusal.{Refusal}
+use Rattle.lent.specs.Lent.{Left, left, over}
 use Rattle.regions.specs.List.{most}
 use Rattle.region.specs.declared.Region.{Region}
 use Rattle.regions.specs.declared.Packing.{Packing}
@@ -110,14 +111,6 @@ tableOf p split room =
     (cond (leb (p .count) most) (fitted (rowCount p split) (rowsOf p split) room) (refuses byTable))
     (refuses byTable)
 
--- what a call answers, and the lent numbers as it leaves them
-pub record Outcome : Type 0 where
-  pub answer : Tabled
-  pub lent : List ℕ
-
-abbrev pub outcome : Tabled → List ℕ → Outcome
-outcome r lent = record { answer = r; lent = lent }
-
--- what is written stands at the front, and the numbers past it stay
-abbrev pub wrote : Table → List ℕ → Outcome
-wrote t lent = outcome (t .answer) (t .rows ++ drop (length (t .rows)) lent)
+-- the rows stand at the front of what was lent
+abbrev pub wrote : Table → List ℕ → Left Tabled
+wrote t lent = left (t .answer) (over (t .rows) lent)
