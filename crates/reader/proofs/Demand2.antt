@@ -31,25 +31,24 @@ use Rattle.reader.proofs.Calls.{to-unlisted, to-oversized, to-payload, 
 
 -- ---- what a payload s of kind k comes to
 
-module _ (k : Kind) (s : List ℕ) where
-  pub taken-when : (a : Record k) (e : ℕ) → (readingOf k s ≡ taken a e) ↔ (Holds (form k) (bitsOf s) a e × (form k .aside a ≡ false))
-  unfolding readingOf
-  taken-when a e = taken-iff (form k) (bitsOf s) a e
+pub taken-when : (k : Kind) (s : List ℕ) (a : Record k) (e : ℕ) → (readingOf k s ≡ taken a e) ↔ (Holds (form k) (bitsOf s) a e × (form k .aside a ≡ false))
+unfolding readingOf
+taken-when k s a e = taken-iff (form k) (bitsOf s) a e
 
-  pub aside-when : (a : Record k) (e : ℕ) → (readingOf k s ≡ setAside a e) ↔ (Holds (form k) (bitsOf s) a e × (form k .aside a ≡ true))
-  unfolding readingOf
-  aside-when a e = aside-iff (form k) (bitsOf s) a e
+pub aside-when : (k : Kind) (s : List ℕ) (a : Record k) (e : ℕ) → (readingOf k s ≡ setAside a e) ↔ (Holds (form k) (bitsOf s) a e × (form k .aside a ≡ true))
+unfolding readingOf
+aside-when k s a e = aside-iff (form k) (bitsOf s) a e
 
-  pub stopped-when : (r : Refusal) → OfElement r → (readingOf k s ≡ refused r) ↔ Stopped (form k .table) (bitsOf s) r
-  unfolding readingOf
-  stopped-when r o = stopped-iff (form k) (bitsOf s) r o
+pub stopped-when : (k : Kind) (s : List ℕ) (r : Refusal) → OfElement r → (readingOf k s ≡ refused r) ↔ Stopped (form k .table) (bitsOf s) r
+unfolding readingOf
+stopped-when k s r o = stopped-iff (form k) (bitsOf s) r o
 
-  pub tail-when : (readingOf k s ≡ refused why.Tail) ↔ BadTail (form k) (bitsOf s)
-  unfolding readingOf
-  tail-when = tail-iff (form k) (bitsOf s)
+pub tail-when : (k : Kind) (s : List ℕ) → (readingOf k s ≡ refused why.Tail) ↔ BadTail (form k) (bitsOf s)
+unfolding readingOf
+tail-when k s = tail-iff (form k) (bitsOf s)
 
-  pub one-of : Seen (form k) (bitsOf s)
-  one-of = seen (form k) (bitsOf s)
+pub one-of : (k : Kind) (s : List ℕ) → Seen (form k) (bitsOf s)
+one-of k s = seen (form k) (bitsOf s)
 
 -- ---- every call is one of the cases
 
@@ -98,144 +97,199 @@ element-later whole.zeros = (λ h. omega arith, λ h. omega arith)
 element-later whole.rule = (λ h. omega arith, λ h. omega arith)
 element-later whole.regions = (λ h. omega arith, λ h. omega arith)
 
-module _ (n size : ℕ) (bytes : List ℕ) where
-  pub number-0 : (numberOf (answerTo n size bytes) ≡ 0) ↔ ((k : Kind) × (a : Record k) × (e : ℕ) × (answerTo n size bytes ≡ made k Taken a e))
-  number-0 = (λ h. go h (case n size bytes), λ d. ap numberOf (d .3))
-    where
-      go : numberOf (answerTo n size bytes) ≡ 0 → Case n size bytes → (k : Kind) × (a : Record k) × (e : ℕ) × (answerTo n size bytes ≡ made k Taken a e)
-      go h (cases.unlisted f m) = absurd (omega (arith, ap numberOf m))
-      go h (cases.oversized k f o m) = absurd (omega (arith, ap numberOf m))
-      go h (cases.stops k w r d m) = absurd (omega (arith, ap numberOf m, some r .0))
-      go h (cases.tail k w d m) = absurd (omega (arith, ap numberOf m))
-      go h (cases.aside k w a e d s m) = absurd (omega (arith, ap numberOf m))
-      go h (cases.taken k w a e d s m) = (k, a, e, m)
+pub number-0 : (n size : ℕ) (bytes : List ℕ) → (numberOf (answerTo n size bytes) ≡ 0) ↔ ((k : Kind) × (a : Record k) × (e : ℕ) × (answerTo n size bytes ≡ made k Taken a e))
+number-0 n size bytes = (λ h. go h (case n size bytes), λ d. ap numberOf (d .3))
+  where
+    go : numberOf (answerTo n size bytes) ≡ 0 → Case n size bytes → (k : Kind) × (a : Record k) × (e : ℕ) × (answerTo n size bytes ≡ made k Taken a e)
+    go h (cases.unlisted f m) = absurd (omega (arith, ap numberOf m))
+    go h (cases.oversized k f o m) = absurd (omega (arith, ap numberOf m))
+    go h (cases.stops k w r d m) = absurd (omega (arith, ap numberOf m, some r .0))
+    go h (cases.tail k w d m) = absurd (omega (arith, ap numberOf m))
+    go h (cases.aside k w a e d s m) = absurd (omega (arith, ap numberOf m))
+    go h (cases.taken k w a e d s m) = (k, a, e, m)
 
-  pub number-20 : (numberOf (answerTo n size bytes) ≡ 20) ↔ ((k : Kind) × (a : Record k) × (e : ℕ) × (answerTo n size bytes ≡ made k SetAside a e))
-  number-20 = (λ h. go h (case n size bytes), λ d. ap numberOf (d .3))
-    where
-      go : numberOf (answerTo n size bytes) ≡ 20 → Case n size bytes → (k : Kind) × (a : Record k) × (e : ℕ) × (answerTo n size bytes ≡ made k SetAside a e)
-      go h (cases.unlisted f m) = absurd (omega (arith, ap numberOf m))
-      go h (cases.oversized k f o m) = absurd (omega (arith, ap numberOf m))
-      go h (cases.stops k w r d m) = absurd (omega (arith, ap numberOf m, some r .1))
-      go h (cases.tail k w d m) = absurd (omega (arith, ap numberOf m))
-      go h (cases.aside k w a e d s m) = (k, a, e, m)
-      go h (cases.taken k w a e d s m) = absurd (omega (arith, ap numberOf m))
+pub number-20 : (n size : ℕ) (bytes : List ℕ) → (numberOf (answerTo n size bytes) ≡ 20) ↔ ((k : Kind) × (a : Record k) × (e : ℕ) × (answerTo n size bytes ≡ made k SetAside a e))
+number-20 n size bytes = (λ h. go h (case n size bytes), λ d. ap numberOf (d .3))
+  where
+    go : numberOf (answerTo n size bytes) ≡ 20 → Case n size bytes → (k : Kind) × (a : Record k) × (e : ℕ) × (answerTo n size bytes ≡ made k SetAside a e)
+    go h (cases.unlisted f m) = absurd (omega (arith, ap numberOf m))
+    go h (cases.oversized k f o m) = absurd (omega (arith, ap numberOf m))
+    go h (cases.stops k w r d m) = absurd (omega (arith, ap numberOf m, some r .1))
+    go h (cases.tail k w d m) = absurd (omega (arith, ap numberOf m))
+    go h (cases.aside k w a e d s m) = (k, a, e, m)
+    go h (cases.taken k w a e d s m) = absurd (omega (arith, ap numberOf m))
 
-  pub number-1 : (numberOf (answerTo n size bytes) ≡ 1) ↔ (answerTo n size bytes ≡ unknown)
-  number-1 = (λ h. go h (case n size bytes), λ m. ap numberOf m)
-    where
-      go : numberOf (answerTo n size bytes) ≡ 1 → Case n size bytes → answerTo n size bytes ≡ unknown
-      go h (cases.unlisted f m) = m
-      go h (cases.oversized k f o m) = absurd (omega (arith, ap numberOf m))
-      go h (cases.stops k w r d m) = absurd (element-later (stopped-which (form k .table) (stated size bytes) r d) .0 (sym (ap numberOf m) ∙ h))
-      go h (cases.tail k w d m) = absurd (omega (arith, ap numberOf m))
-      go h (cases.aside k w a e d s m) = absurd (omega (arith, ap numberOf m))
-      go h (cases.taken k w a e d s m) = absurd (omega (arith, ap numberOf m))
+pub number-1 : (n size : ℕ) (bytes : List ℕ) → (numberOf (answerTo n size bytes) ≡ 1) ↔ (answerTo n size bytes ≡ unknown)
+number-1 n size bytes = (λ h. go h (case n size bytes), λ m. ap numberOf m)
+  where
+    go : numberOf (answerTo n size bytes) ≡ 1 → Case n size bytes → answerTo n size bytes ≡ unknown
+    go h (cases.unlisted f m) = m
+    go h (cases.oversized k f o m) = absurd (omega (arith, ap numberOf m))
+    go h (cases.stops k w r d m) = absurd (element-later (stopped-which (form k .table) (stated size bytes) r d) .0 (sym (ap numberOf m) ∙ h))
+    go h (cases.tail k w d m) = absurd (omega (arith, ap numberOf m))
+    go h (cases.aside k w a e d s m) = absurd (omega (arith, ap numberOf m))
+    go h (cases.taken k w a e d s m) = absurd (omega (arith, ap numberOf m))
 
-  -- 2 to 7
-  pub number-refused : (r : Refusal) → r ≢ why.Kind
-      → (numberOf (answerTo n size bytes) ≡ refusals.numberOf r) ↔ ((k : Kind) × (answerTo n size bytes ≡ refusedAs k r))
-  number-refused r l = (λ h. go h (case n size bytes), λ d. ap numberOf (d .1))
-    where
-      same : {t : Refusal} (k : Kind) → answerTo n size bytes ≡ refusedAs k t → numberOf (answerTo n size bytes) ≡ refusals.numberOf r
-          → (j : Kind) × (answerTo n size bytes ≡ refusedAs j r)
-      same {t} k m h = (k, m ∙ ap (refusedAs k) (refusal-told t r (sym (ap numberOf m) ∙ h)))
+-- 2 to 7
+pub number-refused : (n size : ℕ) (bytes : List ℕ) (r : Refusal) → r ≢ why.Kind
+    → (numberOf (answerTo n size bytes) ≡ refusals.numberOf r) ↔ ((k : Kind) × (answerTo n size bytes ≡ refusedAs k r))
+number-refused n size bytes r l = (λ h. go h (case n size bytes), λ d. ap numberOf (d .1))
+  where
+    same : {t : Refusal} (k : Kind) → answerTo n size bytes ≡ refusedAs k t → numberOf (answerTo n size bytes) ≡ refusals.numberOf r
+        → (j : Kind) × (answerTo n size bytes ≡ refusedAs j r)
+    same {t} k m h = (k, m ∙ ap (refusedAs k) (refusal-told t r (sym (ap numberOf m) ∙ h)))
 
-      go : numberOf (answerTo n size bytes) ≡ refusals.numberOf r → Case n size bytes → (k : Kind) × (answerTo n size bytes ≡ refusedAs k r)
-      go h (cases.unlisted f m) = absurd (l (sym (refusal-told why.Kind r (sym (ap numberOf m) ∙ h))))
-      go h (cases.oversized k f o m) = same k m h
-      go h (cases.stops k w t d m) = same k m h
-      go h (cases.tail k w d m) = same k m h
-      go h (cases.aside k w a e d s m) = absurd (omega (arith, ap numberOf m, some r .1))
-      go h (cases.taken k w a e d s m) = absurd (omega (arith, ap numberOf m, some r .0))
+    go : numberOf (answerTo n size bytes) ≡ refusals.numberOf r → Case n size bytes → (k : Kind) × (answerTo n size bytes ≡ refusedAs k r)
+    go h (cases.unlisted f m) = absurd (l (sym (refusal-told why.Kind r (sym (ap numberOf m) ∙ h))))
+    go h (cases.oversized k f o m) = same k m h
+    go h (cases.stops k w t d m) = same k m h
+    go h (cases.tail k w d m) = same k m h
+    go h (cases.aside k w a e d s m) = absurd (omega (arith, ap numberOf m, some r .1))
+    go h (cases.taken k w a e d s m) = absurd (omega (arith, ap numberOf m, some r .0))
 
-  -- ---- each answer exactly when
+-- ---- each answer exactly when
 
-  -- an answer after 1 and 2 comes of what the payload comes to
-  of-payload : (k : Kind) (o : Outcome) (a : Record k) (e : ℕ) → Later o → answerTo n size bytes ≡ made k o a e
-      → Within k n size bytes × (readingOf k (take size bytes) ≡ reading o a e)
-  of-payload k o a e l h = go (call n size bytes)
-    where
-      go : Call n size bytes → Within k n size bytes × (readingOf k (take size bytes) ≡ reading o a e)
-      go (unlisted f m) = absurd (l .0 (sym (ap numberOf (sym m ∙ h))))
-      go (oversized j f g m) = absurd (l .1 (sym (ap numberOf (sym m ∙ h))))
-      go (payload j w m) =
-          subst
-          (λ i. Within i n size bytes → answerFor i (readingOf i (take size bytes)) ≡ made k o a e
-          → Within k n size bytes × (readingOf k (take size bytes) ≡ reading o a e))
-          (sym (answer-kind j (readingOf j (take size bytes)) k o a e (sym m ∙ h)))
-          (λ x q. (x, answer-reading k (readingOf k (take size bytes)) o a e q))
-          w (sym m ∙ h)
+-- an answer after 1 and 2 comes of what the payload comes to
+of-payload : (n size : ℕ) (bytes : List ℕ) (k : Kind) (o : Outcome) (a : Record k) (e : ℕ) → Later o → answerTo n size bytes ≡ made k o a e
+    → Within k n size bytes × (readingOf k (take size bytes) ≡ reading o a e)
+of-payload n size bytes k o a e l h = go (call n size bytes)
+  where
+    go : Call n size bytes → Within k n size bytes × (readingOf k (take size bytes) ≡ reading o a e)
+    go (unlisted f m) = absurd (l .0 (sym (ap numberOf (sym m ∙ h))))
+    go (oversized j f g m) = absurd (l .1 (sym (ap numberOf (sym m ∙ h))))
+    go (payload j w m) =
+        subst
+        (λ i. Within i n size bytes → answerFor i (readingOf i (take size bytes)) ≡ made k o a e
+        → Within k n size bytes × (readingOf k (take size bytes) ≡ reading o a e))
+        (sym (answer-kind j (readingOf j (take size bytes)) k o a e (sym m ∙ h)))
+        (λ x q. (x, answer-reading k (readingOf k (take size bytes)) o a e q))
+        w (sym m ∙ h)
 
-  -- 0, with the record a and an extension of e bits: exactly where the stated bytes are a message a of the kind and then nothing or a
-  -- permitted tail (for 4 and 5: and then anything), and a is not to be set aside.
-  pub answer-0 : (k : Kind) (a : Record k) (e : ℕ)
-      → (answerTo n size bytes ≡ made k Taken a e) ↔ (Within k n size bytes × Holds (form k) (stated size bytes) a e × (form k .aside a ≡ false))
-  answer-0 k a e = (sound, λ d. to-payload n size bytes k (d .0) ∙ ap (answerFor k) (taken-when k (take size bytes) a e .1 (d .1, d .2)))
-    where
-      sound : answerTo n size bytes ≡ made k Taken a e → Within k n size bytes × Holds (form k) (stated size bytes) a e × (form k .aside a ≡ false)
-      sound h =
-          let d = of-payload k Taken a e (λ x. omega arith, λ x. omega arith) h in
-          let t = taken-when k (take size bytes) a e .0 (d .1) in
-          (d .0, t .0, t .1)
+-- 0, with the record a and an extension of e bits: exactly where the stated bytes are a message a of the kind and then nothing or a
+-- permitted tail (for 4 and 5: and then anything), and a is not to be set aside.
+pub answer-0 : (n size : ℕ) (bytes : List ℕ) (k : Kind) (a : Record k) (e : ℕ)
+    → (answerTo n size bytes ≡ made k Taken a e) ↔ (Within k n size bytes × Holds (form k) (stated size bytes) a e × (form k .aside a ≡ false))
+answer-0 n size bytes k a e = (sound, λ d. to-payload n size bytes k (d .0) ∙ ap (answerFor k) (taken-when k (take size bytes) a e .1 (d .1, d .2)))
+  where
+    sound : answerTo n size bytes ≡ made k Taken a e → Within k n size bytes × Holds (form k) (stated size bytes) a e × (form k .aside a ≡ false)
+    sound h =
+        let d = of-payload n size bytes k Taken a e (λ x. omega arith, λ x. omega arith) h in
+        let t = taken-when k (take size bytes) a e .0 (d .1) in
+        (d .0, t .0, t .1)
 
-  -- 20: exactly where the same holds and a is to be set aside
-  pub answer-20 : (k : Kind) (a : Record k) (e : ℕ)
-      → (answerTo n size bytes ≡ made k SetAside a e) ↔ (Within k n size bytes × Holds (form k) (stated size bytes) a e × (form k .aside a ≡ true))
-  answer-20 k a e = (sound, λ d. to-payload n size bytes k (d .0) ∙ ap (answerFor k) (aside-when k (take size bytes) a e .1 (d .1, d .2)))
-    where
-      sound : answerTo n size bytes ≡ made k SetAside a e → Within k n size bytes × Holds (form k) (stated size bytes) a e × (form k .aside a ≡ true)
-      sound h =
-          let d = of-payload k SetAside a e (λ x. omega arith, λ x. omega arith) h in
-          let t = aside-when k (take size bytes) a e .0 (d .1) in
-          (d .0, t .0, t .1)
+-- 20: exactly where the same holds and a is to be set aside
+pub answer-20 : (n size : ℕ) (bytes : List ℕ) (k : Kind) (a : Record k) (e : ℕ)
+    → (answerTo n size bytes ≡ made k SetAside a e) ↔ (Within k n size bytes × Holds (form k) (stated size bytes) a e × (form k .aside a ≡ true))
+answer-20 n size bytes k a e = (sound, λ d. to-payload n size bytes k (d .0) ∙ ap (answerFor k) (aside-when k (take size bytes) a e .1 (d .1, d .2)))
+  where
+    sound : answerTo n size bytes ≡ made k SetAside a e → Within k n size bytes × Holds (form k) (stated size bytes) a e × (form k .aside a ≡ true)
+    sound h =
+        let d = of-payload n size bytes k SetAside a e (λ x. omega arith, λ x. omega arith) h in
+        let t = aside-when k (take size bytes) a e .0 (d .1) in
+        (d .0, t .0, t .1)
 
-  -- 1, with no fields: exactly where the kind is none of the nine
-  pub answer-1 : (answerTo n size bytes ≡ unknown) ↔ ((k : Kind) → n ≢ number k)
-  answer-1 = (λ h. go h (case n size bytes), to-unlisted n size bytes)
-    where
-      go : answerTo n size bytes ≡ unknown → Case n size bytes → (k : Kind) → n ≢ number k
-      go h (cases.unlisted f m) = f
-      go h (cases.oversized k f o m) = absurd (omega (arith, ap numberOf (sym m ∙ h)))
-      go h (cases.stops k w r d m) = absurd (element-later (stopped-which (form k .table) (stated size bytes) r d) .0 (ap numberOf (sym m ∙ h)))
-      go h (cases.tail k w d m) = absurd (omega (arith, ap numberOf (sym m ∙ h)))
-      go h (cases.aside k w a e d s m) = absurd (omega (arith, ap numberOf (sym m ∙ h)))
-      go h (cases.taken k w a e d s m) = absurd (omega (arith, ap numberOf (sym m ∙ h)))
+-- 1, with no fields: exactly where the kind is none of the nine
+pub answer-1 : (n size : ℕ) (bytes : List ℕ) → (answerTo n size bytes ≡ unknown) ↔ ((k : Kind) → n ≢ number k)
+answer-1 n size bytes = (λ h. go h (case n size bytes), to-unlisted n size bytes)
+  where
+    go : answerTo n size bytes ≡ unknown → Case n size bytes → (k : Kind) → n ≢ number k
+    go h (cases.unlisted f m) = f
+    go h (cases.oversized k f o m) = absurd (omega (arith, ap numberOf (sym m ∙ h)))
+    go h (cases.stops k w r d m) = absurd (element-later (stopped-which (form k .table) (stated size bytes) r d) .0 (ap numberOf (sym m ∙ h)))
+    go h (cases.tail k w d m) = absurd (omega (arith, ap numberOf (sym m ∙ h)))
+    go h (cases.aside k w a e d s m) = absurd (omega (arith, ap numberOf (sym m ∙ h)))
+    go h (cases.taken k w a e d s m) = absurd (omega (arith, ap numberOf (sym m ∙ h)))
 
-  -- 2, with zeros, as in every refusal of a listed kind: exactly where the size exceeds 8,192 or the lent length
-  pub answer-2 : (k : Kind) → (answerTo n size bytes ≡ refusedAs k refusals.bySize) ↔ ((n ≡ number k) × Over size bytes)
-  answer-2 k = (λ h. go h (case n size bytes), λ d. to-oversized n size bytes k (d .0) (d .1))
-    where
-      one : (j : Kind) → refusedAs j refusals.bySize ≡ refusedAs k refusals.bySize → j ≡ k
-      one j q =
-          let o = Refused refusals.bySize in
-          made-kind j k o o (zeros j) (zeros k) 0 0 (refused-plain j refusals.bySize ∙ q ∙ sym (refused-plain k refusals.bySize))
+-- 2, with zeros, as in every refusal of a listed kind: exactly where the size exceeds 8,192 or the lent length
+pub answer-2 : (n size : ℕ) (bytes : List ℕ) (k : Kind) → (answerTo n size bytes ≡ refusedAs k refusals.bySize) ↔ ((n ≡ number k) × Over size bytes)
+answer-2 n size bytes k = (λ h. go h (case n size bytes), λ d. to-oversized n size bytes k (d .0) (d .1))
+  where
+    one : (j : Kind) → refusedAs j refusals.bySize ≡ refusedAs k refusals.bySize → j ≡ k
+    one j q =
+        let o = Refused refusals.bySize in
+        made-kind j k o o (zeros j) (zeros k) 0 0 (refused-plain j refusals.bySize ∙ q ∙ sym (refused-plain k refusals.bySize))
 
-      go : answerTo n size bytes ≡ refusedAs k refusals.bySize → Case n size bytes → (n ≡ number k) × Over size bytes
-      go h (cases.unlisted f m) = absurd (omega (arith, ap numberOf (sym m ∙ h)))
-      go h (cases.oversized j f o m) = (f ∙ ap number (one j (sym m ∙ h)), o)
-      go h (cases.stops j w r d m) = absurd (element-later (stopped-which (form j .table) (stated size bytes) r d) .1 (ap numberOf (sym m ∙ h)))
-      go h (cases.tail j w d m) = absurd (omega (arith, ap numberOf (sym m ∙ h)))
-      go h (cases.aside j w a e d s m) = absurd (omega (arith, ap numberOf (sym m ∙ h)))
-      go h (cases.taken j w a e d s m) = absurd (omega (arith, ap numberOf (sym m ∙ h)))
+    go : answerTo n size bytes ≡ refusedAs k refusals.bySize → Case n size bytes → (n ≡ number k) × Over size bytes
+    go h (cases.unlisted f m) = absurd (omega (arith, ap numberOf (sym m ∙ h)))
+    go h (cases.oversized j f o m) = (f ∙ ap number (one j (sym m ∙ h)), o)
+    go h (cases.stops j w r d m) = absurd (element-later (stopped-which (form j .table) (stated size bytes) r d) .1 (ap numberOf (sym m ∙ h)))
+    go h (cases.tail j w d m) = absurd (omega (arith, ap numberOf (sym m ∙ h)))
+    go h (cases.aside j w a e d s m) = absurd (omega (arith, ap numberOf (sym m ∙ h)))
+    go h (cases.taken j w a e d s m) = absurd (omega (arith, ap numberOf (sym m ∙ h)))
 
-  of-refused : (k : Kind) (r : Refusal) → Later (Refused r) → answerTo n size bytes ≡ refusedAs k r → Within k n size bytes × (readingOf k (take size bytes) ≡ refused r)
-  of-refused k r l h = of-payload k (Refused r) (zeros k) 0 l (h ∙ sym (refused-plain k r))
+of-refused : (n size : ℕ) (bytes : List ℕ) (k : Kind) (r : Refusal) → Later (Refused r) → answerTo n size bytes ≡ refusedAs k r → Within k n size bytes × (readingOf k (take size bytes) ≡ refused r)
+of-refused n size bytes k r l h = of-payload n size bytes k (Refused r) (zeros k) 0 l (h ∙ sym (refused-plain k r))
 
-  to-refused : (k : Kind) (r : Refusal) → Within k n size bytes → readingOf k (take size bytes) ≡ refused r → answerTo n size bytes ≡ refusedAs k r
-  to-refused k r w e = to-payload n size bytes k w ∙ ap (answerFor k) e ∙ refused-plain k r
+to-refused : (n size : ℕ) (bytes : List ℕ) (k : Kind) (r : Refusal) → Within k n size bytes → readingOf k (take size bytes) ≡ refused r → answerTo n size bytes ≡ refusedAs k r
+to-refused n size bytes k r w e = to-payload n size bytes k w ∙ ap (answerFor k) e ∙ refused-plain k r
 
-  -- 3, 4, 5, 6: exactly where the elements stop it
-  pub answer-stopped : (k : Kind) (r : Refusal) → OfElement r
-      → (answerTo n size bytes ≡ refusedAs k r) ↔ (Within k n size bytes × Stopped (form k .table) (stated size bytes) r)
-  answer-stopped k r o = (sound, λ d. to-refused k r (d .0) (stopped-when k (take size bytes) r o .1 (d .1)))
-    where
-      sound : answerTo n size bytes ≡ refusedAs k r → Within k n size bytes × Stopped (form k .table) (stated size bytes) r
-      sound h = let d = of-refused k r (element-later o) h in (d .0, stopped-when k (take size bytes) r o .0 (d .1))
+-- 3, 4, 5, 6: exactly where the elements stop it
+pub answer-stopped : (n size : ℕ) (bytes : List ℕ) (k : Kind) (r : Refusal) → OfElement r
+    → (answerTo n size bytes ≡ refusedAs k r) ↔ (Within k n size bytes × Stopped (form k .table) (stated size bytes) r)
+answer-stopped n size bytes k r o = (sound, λ d. to-refused n size bytes k r (d .0) (stopped-when k (take size bytes) r o .1 (d .1)))
+  where
+    sound : answerTo n size bytes ≡ refusedAs k r → Within k n size bytes × Stopped (form k .table) (stated size bytes) r
+    sound h = let d = of-refused n size bytes k r (element-later o) h in (d .0, stopped-when k (take size bytes) r o .0 (d .1))
 
-  -- 7: exactly where a message stands, and what follows it is not permitted
-  pub answer-7 : (k : Kind) → (answerTo n size bytes ≡ refusedAs k why.Tail) ↔ (Within k n size bytes × BadTail (form k) (stated size bytes))
-  answer-7 k = (sound, λ d. to-refused k why.Tail (d .0) (tail-when k (take size bytes) .1 (d .1)))
-    where
-      sound : answerTo n size bytes ≡ refusedAs k why.Tail → Within k n size bytes × BadTail (form k) (stated size bytes)
-      sound h = let d = of-refused k why.Tail (λ x. omega arith, λ x. omega arith) h in (d .0, tail-when k (take size bytes) .0 (d .1))
+-- 7: exactly where a message stands, and what follows it is not permitted
+pub answer-7 : (n size : ℕ) (bytes : List ℕ) (k : Kind) → (answerTo n size bytes ≡ refusedAs k why.Tail) ↔ (Within k n size bytes × BadTail (form k) (stated size bytes))
+answer-7 n size bytes k = (sound, λ d. to-refused n size bytes k why.Tail (d .0) (tail-when k (take size bytes) .1 (d .1)))
+  where
+    sound : answerTo n size bytes ≡ refusedAs k why.Tail → Within k n size bytes × BadTail (form k) (stated size bytes)
+    sound h = let d = of-refused n size bytes k why.Tail (λ x. omega arith, λ x. omega arith) h in (d .0, tail-when k (take size bytes) .0 (d .1))
+
+-- ---- and so each number exactly when
+
+pub when-0 : (n size : ℕ) (bytes : List ℕ) → (numberOf (answerTo n size bytes) ≡ 0)
+    ↔ ((k : Kind) × (a : Record k) × (e : ℕ) × Within k n size bytes × Holds (form k) (stated size bytes) a e × (form k .aside a ≡ false))
+when-0 n size bytes = (to, λ d. ap numberOf (answer-0 n size bytes (d .0) (d .1) (d .2) .1 (d .3, d .4, d .5)))
+  where
+    to : numberOf (answerTo n size bytes) ≡ 0
+        → (k : Kind) × (a : Record k) × (e : ℕ) × Within k n size bytes × Holds (form k) (stated size bytes) a e × (form k .aside a ≡ false)
+    to h =
+        let r = number-0 n size bytes .0 h in
+        let d = answer-0 n size bytes (r .0) (r .1) (r .2) .0 (r .3) in
+        (r .0, r .1, r .2, d .0, d .1, d .2)
+
+pub when-1 : (n size : ℕ) (bytes : List ℕ) → (numberOf (answerTo n size bytes) ≡ 1) ↔ ((k : Kind) → n ≢ number k)
+when-1 n size bytes = (λ h. answer-1 n size bytes .0 (number-1 n size bytes .0 h), λ d. ap numberOf (answer-1 n size bytes .1 d))
+
+pub when-2 : (n size : ℕ) (bytes : List ℕ) → (numberOf (answerTo n size bytes) ≡ 2) ↔ ((k : Kind) × (n ≡ number k) × Over size bytes)
+when-2 n size bytes = (to, λ d. ap numberOf (answer-2 n size bytes (d .0) .1 (d .1, d .2)))
+  where
+    to : numberOf (answerTo n size bytes) ≡ 2 → (k : Kind) × (n ≡ number k) × Over size bytes
+    to h =
+        let r = number-refused n size bytes refusals.bySize (λ q. let z : _≡_ {A = ℕ} 0 1 = cc in omega arith) .0 h in
+        let d = answer-2 n size bytes (r .0) .0 (r .1) in
+        (r .0, d .0, d .1)
+
+-- 3, 4, 5 and 6
+pub when-stopped : (n size : ℕ) (bytes : List ℕ) (r : Refusal) → OfElement r
+    → (numberOf (answerTo n size bytes) ≡ refusals.numberOf r) ↔ ((k : Kind) × Within k n size bytes × Stopped (form k .table) (stated size bytes) r)
+when-stopped n size bytes r o = (to, λ d. ap numberOf (answer-stopped n size bytes (d .0) r o .1 (d .1, d .2)))
+  where
+    to : numberOf (answerTo n size bytes) ≡ refusals.numberOf r → (k : Kind) × Within k n size bytes × Stopped (form k .table) (stated size bytes) r
+    to h =
+        let x = number-refused n size bytes r (λ q. element-later o .0 (ap refusals.numberOf q)) .0 h in
+        let d = answer-stopped n size bytes (x .0) r o .0 (x .1) in
+        (x .0, d .0, d .1)
+
+pub when-7 : (n size : ℕ) (bytes : List ℕ) → (numberOf (answerTo n size bytes) ≡ 7) ↔ ((k : Kind) × Within k n size bytes × BadTail (form k) (stated size bytes))
+when-7 n size bytes = (to, λ d. ap numberOf (answer-7 n size bytes (d .0) .1 (d .1, d .2)))
+  where
+    to : numberOf (answerTo n size bytes) ≡ 7 → (k : Kind) × Within k n size bytes × BadTail (form k) (stated size bytes)
+    to h =
+        let x = number-refused n size bytes why.Tail (λ q. let z : _≡_ {A = ℕ} 0 1 = cc in omega arith) .0 h in
+        let d = answer-7 n size bytes (x .0) .0 (x .1) in
+        (x .0, d .0, d .1)
+
+pub when-20 : (n size : ℕ) (bytes : List ℕ) → (numberOf (answerTo n size bytes) ≡ 20)
+    ↔ ((k : Kind) × (a : Record k) × (e : ℕ) × Within k n size bytes × Holds (form k) (stated size bytes) a e × (form k .aside a ≡ true))
+when-20 n size bytes = (to, λ d. ap numberOf (answer-20 n size bytes (d .0) (d .1) (d .2) .1 (d .3, d .4, d .5)))
+  where
+    to : numberOf (answerTo n size bytes) ≡ 20
+        → (k : Kind) × (a : Record k) × (e : ℕ) × Within k n size bytes × Holds (form k) (stated size bytes) a e × (form k .aside a ≡ true)
+    to h =
+        let r = number-20 n size bytes .0 h in
+        let d = answer-20 n size bytes (r .0) (r .1) (r .2) .0 (r .3) in
+        (r .0, r .1, r .2, d .0, d .1, d .2)
