@@ -1,17 +1,25 @@
--- The eight slots after any calls from the start: what they hold, and that a held packing has a count that a table can be made of.
+-- The eight slots after any calls from the start: what they hold, and when their tables are refused with 9.
 -- Assumes nothing.
 use Prim.Native.Nat.{ℕ, _≤_, _<_}
-use mathlib.Core.Path.{_≡_, ap, _∙_}
+use mathlib.Core.Path.{_≡_, refl, ap, _∙_}
 use mathlib.Core.Logic.{_↔_, _⊎_, inl, inr}
+use mathlib.Core.Bool.{Bool, true, false}
 use mathlib.Core.List.{List, [], _∷_}
+use lib.Dec.{eqb}
+use borrow.Author.Tests.{eqb-true, eqb-false}
 use Rattle.bits.proofs.BitLaws.{below}
 use Rattle.answers.specs.Listed.{Record}
 use Rattle.regions.specs.declared.Packing.{Packing}
-use Rattle.rows.specs.Rows.{Countable}
-use Rattle.slots.specs.Slots.{Eight, start, slotAt, closedSlot, freshSlot}
+use Rattle.rows.specs.Rows.{Countable, Uncountable, tabledNumber}
+use Rattle.rows.proofs.Outcomes.{countable-or-not}
+use Rattle.held.specs.declared.Held.{Held}
+use Rattle.slots.specs.Slots.{Eight, start, slotAt, isOpen, closedSlot, freshSlot}
 use Rattle.slots.specs.declared.Slot.{Slot}
 use Rattle.slots.specs.declared.Slots.{Slots}
 use Rattle.slots.proofs.Laws.{start-eight, start-closed, slot-past, closed-holds}
+use Rattle.tables.specs.Table.{tableIn}
+use Rattle.tables.specs.Cases.{packingOf, NoTable, none, uncounted, unpacked, other, Tableless}
+use Rattle.tables.proofs.TableLaws.{when-9}
 use Rattle.isolation.specs.Runs.{Call, opens, after, only, ends}
 use Rattle.isolation.specs.Lasting.{Lasting, regionWise, kindOf, cancelOf, ByTable, HoldsOf, history, Since}
 use Rattle.isolation.proofs.Isolation.{factors, alone, eight-after}
@@ -55,3 +63,29 @@ held-countable cs n e =
     let p : Packing = slotAt (after start cs) n .held .regions .value in
     let c = held-count p cs n (ap (λ (on : ℕ). record { on = on; value = p }) e) in
     record { some = c .0; few = c .1 }
+
+-- and 9 is given exactly where 01 says
+words : (h : Held) → (h .regions .on ≡ 1 → Countable (packingOf h)) → NoTable h ↔ Tableless h
+words h k = (to, back)
+  where
+    counted : Uncountable (packingOf h) → (b : Bool) → eqb (h .regions .on) 1 ≡ b → Tableless h
+    counted u true e = absurd (countable-or-not (packingOf h) (k (eqb-true _ _ e)) u)
+    counted u false e = inl (eqb-false _ _ e)
+
+    to : NoTable h → Tableless h
+    to (none o) = inl o
+    to (uncounted u) = counted u (eqb (h .regions .on) 1) refl
+    to (unpacked m f) = inr (m, inl f)
+    to (other m t u) = inr (m, inr (t, u))
+
+    back : Tableless h → NoTable h
+    back (inl o) = none o
+    back (inr (m, inl f)) = unpacked m f
+    back (inr (m, inr w)) = other m (w .0) (w .1)
+
+pub nine-from-start : (cs : List Call) (n room : ℕ)
+    → (tabledNumber (tableIn (after start cs) n room .answer) ≡ 9) ↔ ((isOpen (slotAt (after start cs) n) ≡ true) × Tableless (slotAt (after start cs) n .held))
+nine-from-start cs n room =
+    let when = when-9 (after start cs) n room in
+    let same = words (slotAt (after start cs) n .held) (held-countable cs n) in
+    (λ q. let w = when .0 q in (w .0, same .0 (w .1)), λ w. when .1 (w .0, same .1 (w .1)))

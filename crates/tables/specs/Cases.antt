@@ -1,7 +1,7 @@
 -- When a table can be made of what a slot holds, and the four cases of a table call.
 use Prim.Native.Nat.{ℕ, _*_, _≤_, _<_}
 use mathlib.Core.Path.{_≡_}
-use mathlib.Core.Logic.{_≢_}
+use mathlib.Core.Logic.{_≢_, _⊎_}
 use mathlib.Core.Bool.{true, false}
 use Rattle.bits.specs.Refusals.{bySlot, byTable, byRows}
 use Rattle.regions.specs.declared.Packing.{Packing}
@@ -34,7 +34,11 @@ pub record Makes (h : Held) (split : Split) : Type 0 where
   pub counted : Countable (packingOf h)
   pub splits : Splits h split
 
--- "no held kind 155, or the matching flag without such a kind 45"; or a record that no message leaves
+-- 01's words for 9: "no held kind 155, or the matching flag without such a kind 45"
+abbrev pub Tableless : Held → Type 0
+Tableless h = (h .regions .on ≢ 1) ⊎ ((packingOf h .matching ≢ 0) × ((h .«frame_packing» .on ≢ 1) ⊎ ((typeOf h ≢ 3) × (typeOf h ≢ 4))))
+
+-- the same case by case; or a record that no message leaves
 pub data NoTable (h : Held) : Type 0 where
   none : h .regions .on ≢ 1 → NoTable h
   uncounted : Uncountable (packingOf h) → NoTable h
