@@ -58,6 +58,8 @@ use Rattle.bits.proofs.refusal.Refusal.table.Kinds as table-made-kinds
 use Rattle.bits.proofs.refusal.Refusal.table.Reads as table-made-reads
 use Rattle.bits.proofs.refusal.Refusal.rows.Kinds as rows-made-kinds
 use Rattle.bits.proofs.refusal.Refusal.rows.Reads as rows-made-reads
+use Rattle.bits.proofs.refusal.Refusal.unasked.Kinds as unasked-made-kinds
+use Rattle.bits.proofs.refusal.Refusal.unasked.Reads as unasked-made-reads
 use Rattle.bits.proofs.read.Onward.refusal.Kinds as onward-refusal-kinds
 use Rattle.bits.proofs.read.Onward.refusal.Reads as onward-refusal-reads
 
@@ -188,6 +190,9 @@ table-made-determined κs a x y s t p q = p ∙ sym q
 
 pub rows-made-determined : Determines 0 rows-made-kinds.ps rows-made-kinds.r rows-made-reads.Post
 rows-made-determined κs a x y s t p q = p ∙ sym q
+
+pub unasked-made-determined : Determines 0 unasked-made-kinds.ps unasked-made-kinds.r unasked-made-reads.Post
+unasked-made-determined κs a x y s t p q = p ∙ sym q
 
 pub onward-refusal-determined : Determines 0 onward-refusal-kinds.ps onward-refusal-kinds.r onward-refusal-reads.Post
 onward-refusal-determined κs a x y s t p q = p ∙ sym q

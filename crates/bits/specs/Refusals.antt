@@ -32,6 +32,10 @@ byTable = Table
 abbrev pub byRows : Refusal
 byRows = Rows
 
+-- what an answer that has a value gives as its refusal, which nobody asks for
+abbrev pub unasked : Refusal
+unasked = Short
+
 -- how a rule can be broken: 5, or 6
 pub data Breach : Type 0 where
   broken : Breach
