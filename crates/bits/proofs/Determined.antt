@@ -79,6 +79,14 @@ DeterminesAll n ps r seen Post =
     → Post κs a y t
     → (x ≡ y) × (seen κs s ≡ seen κs t)
 
+-- and of one that hands back a part of what it is lent: the arguments a fix what `held` says that the part holds, not where it lies
+abbrev pub DeterminesPart : (n : ℕ) (ps : List (PK n)) (r : RK n) {X : Type 0} → ((κs : Lfts n) → resT r κs .Denot → X) → kinds.Out n ps r → Type 0
+DeterminesPart n ps r held Post =
+    (κs : Lfts n) (a : Dens κs ps) (x y : resT r κs .Denot) (s t : AtExit (endedOf n ps r) κs)
+    → Post κs a x s
+    → Post κs a y t
+    → held κs x ≡ held κs y
+
 -- ---- a meaning tells the cases of an answer apart where the answer can be had back from it
 
 told-by : {R X : Type 0} (meaning : R → X) (back : X → R) → ((r : R) → back (meaning r) ≡ r) → (r t : R) → meaning r ≡ meaning t → r ≡ t

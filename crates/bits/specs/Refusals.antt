@@ -49,3 +49,10 @@ refusalOf tooMany = Regions
 pub data Verdict : Type 0 where
   fine : Verdict
   against : Breach → Verdict
+
+-- the refusals of elements: 3, 4, 5 and 6
+pub data OfElement : Refusal → Type 0 where
+  short : OfElement Short
+  zeros : OfElement Zeros
+  rule : OfElement Rule
+  regions : OfElement Regions

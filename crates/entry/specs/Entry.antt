@@ -2,6 +2,7 @@
 use Prim.Native.Nat.{ℕ}
 use mathlib.Core.Bool.{Bool, true, false, _&&_}
 use lib.Dec.{leb}
+use Rattle.bits.specs.Bits.{mostBytes}
 use Rattle.answers.specs.Listed.{named}
 use Rattle.answers.specs.declared.kind.Named.{Named}
 use Rattle.answers.specs.declared.kind.Named.the-variants as names
@@ -10,7 +11,7 @@ use Rattle.entry.specs.declared.Entry.the-variants.{Unlisted, Oversized,
 
 -- the stated size is within the limit and the lent bytes
 abbrev pub fits : ℕ → ℕ → Bool
-fits size room = leb size 8192 && leb size room
+fits size room = leb size mostBytes && leb size room
 
 abbrev pub entered : Named → Bool → Entry
 entered names.Unlisted fit = Unlisted

@@ -68,11 +68,11 @@ pub shut-8 : (kind : ℕ) → numberOf (shutAnswer kind) ≡ 8
 unfolding shutAnswer
 shut-8 kind = shut-number (named kind)
 
-of-element : {r : Refusal} → whole.OfElement r → refusals.numberOf r ≡ 8 → ⊥
-of-element whole.short e = omega arith
-of-element whole.zeros e = omega arith
-of-element whole.rule e = omega arith
-of-element whole.regions e = omega arith
+of-element : {r : Refusal} → refusals.OfElement r → refusals.numberOf r ≡ 8 → ⊥
+of-element refusals.short e = omega arith
+of-element refusals.zeros e = omega arith
+of-element refusals.rule e = omega arith
+of-element refusals.regions e = omega arith
 
 -- no reading is answered 8
 pub answer-not-8 : (kind size : ℕ) (bytes : List ℕ) → numberOf (answerTo kind size bytes) ≡ 8 → ⊥

@@ -10,7 +10,7 @@ use native.Mathlib.Omega.{arith}
 use lib.ListN.{length, drop}
 use lib.Seq.{drop-at}
 use Rattle.bits.specs.Bits.{from, bitsOf}
-use Rattle.bits.specs.Refusals.{Breach, broken, tooMany, refusalOf}
+use Rattle.bits.specs.Refusals.{Breach, broken, tooMany, refusalOf, OfElement, short, zeros, rule, regions}
 use Rattle.bits.specs.Out as out
 use Rattle.bits.specs.Tail.{tailOf, tailAt}
 use Rattle.bits.specs.declared.ending.Ending.{Ending}
@@ -24,18 +24,12 @@ use Rattle.format.specs.Coded.{Coded}
 use Rattle.format.specs.Stopped.{StoppedHere, Stopped}
 use Rattle.format.specs.Stopped as stopped
 use Rattle.format.specs.Varied.{Variation}
-use Rattle.format.specs.Whole.{Form, Reading, taken, setAside, refused, given, ended, ending, closed, whole, Follows, Holds, BadTail}
+use Rattle.format.specs.Whole.{Form, Reading, taken, setAside, refused, given, ended, ending, closed, whole, Follows, Holds, BadTail, Seen, holds, stops, tail}
 use Rattle.format.proofs.Run.{run-sound, run-complete, run-stopped}
 use Rattle.format.proofs.Alike.{varied-taken, varied-length}
 use Rattle.format.proofs.Payload as payload
 
 -- ---- the refusals of elements are 3, 4, 5 and 6
-
-pub data OfElement : Refusal → Type 0 where
-  short : OfElement Short
-  zeros : OfElement Zeros
-  rule : OfElement Rule
-  regions : OfElement Regions
 
 here-which : (e : Element) (w : List Bool) {r : Refusal} → StoppedHere e w r → OfElement r
 here-which e w (stopped.short d) = short
@@ -102,12 +96,6 @@ module _ {A : Type 0} where
       ap (whole k) (d .split)
       ∙ at-message k (d .message) (d .rest) a (d .coded)
       ∙ ap (ended (k .aside) a) (ending-iff (k .tailed) (d .rest) e .1 (d .follows))
-
-  -- the three ways of a payload
-  pub data Seen (k : Form A) (w : List Bool) : Type 0 where
-    holds : (a : A) (e : ℕ) → Holds k w a e → Seen k w
-    stops : (r : Refusal) → Stopped (k .table) w r → Seen k w
-    tail : BadTail k w → Seen k w
 
   pub seen : (k : Form A) (w : List Bool) → Seen k w
   seen k w = go (run (k .table) w) refl

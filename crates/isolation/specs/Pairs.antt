@@ -4,7 +4,7 @@ use mathlib.Core.Path.{_≡_}
 use mathlib.Core.Bool.{Bool, true}
 use mathlib.Core.List.{List, [], _∷_, _++_}
 use lib.ListN.{length, take}
-use Rattle.bits.specs.Bits.{bitsOf}
+use Rattle.bits.specs.Bits.{mostBytes, bitsOf}
 use Rattle.format.specs.Whole.{Holds, Follows}
 use Rattle.format.specs.Varied.{Variation}
 use Rattle.answers.specs.Listed.{Record, form, number}
@@ -16,7 +16,7 @@ use Rattle.isolation.specs.Runs.{Call, feeds, tables, said, after, repli
 
 -- Within the size limits, the payload's bits are a message of kind k and what may follow it: the payload is taken or set aside.
 pub record IsMessage (k : Kind) (size : ℕ) (bytes : List ℕ) : Type 0 where
-  pub limit : size ≤ 8192
+  pub limit : size ≤ mostBytes
   pub long : size ≤ length bytes
   pub value : Record k
   pub extension : ℕ
@@ -29,7 +29,7 @@ pub record VariedPayload (kind size : ℕ) (bytes : List ℕ) (size′ : ℕ) (b
   pub listed : kind ≡ number k
   pub tailed : form k .tailed ≡ true
   pub first : IsMessage k size bytes
-  pub limit′ : size′ ≤ 8192
+  pub limit′ : size′ ≤ mostBytes
   pub long′ : size′ ≤ length bytes′
   pub message′ : List Bool
   pub rest′ : List Bool

@@ -10,13 +10,14 @@ use native.Mathlib.Omega.{arith}
 use lib.ListN.{take}
 use Rattle.bits.specs.Bits.{bitsOf}
 use Rattle.bits.specs.Refusals as refusals
+use Rattle.bits.specs.Refusals.{OfElement}
 use Rattle.bits.specs.declared.refusal.Refusal.{Refusal}
 use Rattle.bits.specs.declared.refusal.Refusal.the-variants as why
 use Rattle.bits.proofs.Determined.{refusal-told}
 use Rattle.format.specs.Stopped.{Stopped}
-use Rattle.format.specs.Whole.{taken, setAside, refused, Holds, BadTail}
-use Rattle.format.proofs.Whole.{OfElement, Seen, seen, stopped-which, taken-iff, aside-iff, stopped-iff, tail-iff}
-use Rattle.format.proofs.Whole as whole
+use Rattle.format.specs.Whole.{taken, setAside, refused, Holds, BadTail, Seen}
+use Rattle.format.specs.Whole as whole
+use Rattle.format.proofs.Whole.{seen, stopped-which, taken-iff, aside-iff, stopped-iff, tail-iff}
 use Rattle.answers.specs.Listed.{Record, zeros, form, number, readingOf}
 use Rattle.answers.specs.Answer.{outcomeNumber, numberOf, made, answerFor, refusedAs, unknown}
 use Rattle.answers.specs.declared.kind.Kind.{Kind}
@@ -92,10 +93,10 @@ abbrev Later : Outcome → Type 0
 Later o = (outcomeNumber o ≢ 1) × (outcomeNumber o ≢ 2)
 
 element-later : {r : Refusal} → OfElement r → Later (Refused r)
-element-later whole.short = (λ h. omega arith, λ h. omega arith)
-element-later whole.zeros = (λ h. omega arith, λ h. omega arith)
-element-later whole.rule = (λ h. omega arith, λ h. omega arith)
-element-later whole.regions = (λ h. omega arith, λ h. omega arith)
+element-later refusals.short = (λ h. omega arith, λ h. omega arith)
+element-later refusals.zeros = (λ h. omega arith, λ h. omega arith)
+element-later refusals.rule = (λ h. omega arith, λ h. omega arith)
+element-later refusals.regions = (λ h. omega arith, λ h. omega arith)
 
 pub number-0 : (n size : ℕ) (bytes : List ℕ) → (numberOf (answerTo n size bytes) ≡ 0) ↔ ((k : Kind) × (a : Record k) × (e : ℕ) × (answerTo n size bytes ≡ made k Taken a e))
 number-0 n size bytes = (λ h. go h (case n size bytes), λ d. ap numberOf (d .3))

@@ -4,6 +4,7 @@ use mathlib.Core.Path.{_≡_}
 use mathlib.Core.Logic.{_⊎_}
 use mathlib.Core.List.{List}
 use lib.ListN.{length, take}
+use Rattle.bits.specs.Bits.{mostBytes}
 use Rattle.bits.specs.Refusals.{bySize}
 use Rattle.answers.specs.Listed.{number, readingOf}
 use Rattle.answers.specs.Answer.{answerFor, refusedAs, unknown}
@@ -24,8 +25,8 @@ answerTo n size bytes = answered (entryTo n size (length bytes)) size bytes
 
 -- The same, declared: the size exceeds the limit or the lent bytes ..
 abbrev pub Over : ℕ → List ℕ → Type 0
-Over size bytes = (8192 < size) ⊎ (length bytes < size)
+Over size bytes = (mostBytes < size) ⊎ (length bytes < size)
 
 -- .. or n is the number of kind k, and the size is within both.
 abbrev pub Within : Kind → ℕ → ℕ → List ℕ → Type 0
-Within k n size bytes = (n ≡ number k) × (size ≤ 8192) × (size ≤ length bytes)
+Within k n size bytes = (n ≡ number k) × (size ≤ mostBytes) × (size ≤ length bytes)

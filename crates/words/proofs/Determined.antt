@@ -1,11 +1,8 @@
 -- Each public contract determines its result: that of `bytes` the lent bytes too as it leaves them, and that of `content` the characters that it hands back.
 -- Assumes nothing.
-use mathlib.Core.Path.{_≡_, sym, _∙_}
-use contract.Lifetimes.{Lfts}
-use denote.Triple.Clauses.{AtExit}
+use mathlib.Core.Path.{sym, _∙_}
 use denote.Ref.{now}
-use borrow.Fn.Kinds.{Dens, resT, endedOf}
-use Rattle.bits.proofs.Determined.{Determines, DeterminesAll}
+use Rattle.bits.proofs.Determined.{Determines, DeterminesAll, DeterminesPart}
 use Rattle.lent.proofs.Stores.{same-left}
 use Rattle.words.proofs.hex.digit.Kinds as digit-kinds
 use Rattle.words.proofs.hex.digit.Reads as digit-reads
@@ -35,9 +32,5 @@ find-determined κs a x y s t p q = p .0 ∙ sym (q .0)
 pub skip-determined : Determines 1 skip-kinds.ps skip-kinds.r skip-reads.Post
 skip-determined κs a x y s t p q = p .0 ∙ sym (q .0)
 
-pub content-determined :
-    (κs : Lfts 1) (a : Dens κs content-kinds.ps) (x y : resT content-kinds.r κs .Denot) (s t : AtExit (endedOf 1 content-kinds.ps content-kinds.r) κs)
-    → content-reads.Post κs a x s
-    → content-reads.Post κs a y t
-    → now x ≡ now y
+pub content-determined : DeterminesPart 1 content-kinds.ps content-kinds.r (λ κs x. now x) content-reads.Post
 content-determined κs a x y s t p q = p ∙ sym q
