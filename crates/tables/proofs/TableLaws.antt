@@ -14,7 +14,7 @@ use Rattle.bits.specs.Refusals.{bySlot, byTable}
 use Rattle.bits.proofs.BitLaws.{below as below-or-not}
 use Rattle.regions.specs.List.{most}
 use Rattle.regions.specs.declared.Packing.{Packing}
-use Rattle.rows.specs.Rows.{Countable, Table, refuses, rowCount, tabledNumber, tabledRows, tableOf, wrote}
+use Rattle.rows.specs.Rows.{Countable, refuses, rowCount, tabledNumber, tabledRows, tableOf, wrote}
 use Rattle.rows.specs.Cases as by-packing
 use Rattle.rows.specs.declared.Split.{Split}
 use Rattle.rows.specs.declared.Split.the-variants.{Whole, Beside, Below}
