@@ -7,6 +7,9 @@ use script::line::BYTES;
 use show::style::Style;
 use slots::Slots;
 use words::place::front;
+ghost use mathlib.Core.Path.{_≡_};
+ghost use lib.ListN.{take};
+ghost use Rattle.feeding.specs.Feed.{fedTo};
 
 // The numbers of the longest record.
 const ROW: usize = 313;
@@ -23,7 +26,9 @@ pub fn read(style: Style, p: Payload, lent: &[u8; BYTES]) {
     shown(style, payload::read(p.kind, p.size, bytes), p, bytes);
 }
 
-pub fn feed(slots: Slots, slot: u64, p: Payload, lent: &[u8; BYTES]) -> Slots {
+pub fn feed(slots: Slots, slot: u64, p: Payload, lent: &[u8; BYTES]) -> Slots
+    ensures { λ r. ⌜ r ≡ fedTo slots slot (p .kind) (p .size) (take (p .count) (now (lent .entry))) .slots ⌝ }
+{
     let bytes = front(lent, p.count);
     let fed = feeding::feed(slots, slot, p.kind, p.size, bytes);
     shown(Style::Line, fed.answer, p, bytes);
