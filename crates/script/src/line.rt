@@ -16,11 +16,17 @@ use print::text;
 use words::number::Spelled;
 use words::place::content;
 use words::place::front;
+ghost use mathlib.Core.Path.{_≡_};
+ghost use Rattle.script.specs.Words.{lastOf};
+ghost use Rattle.script.specs.Payload.{payloadOf};
+ghost use Rattle.script.specs.Line.{outcome, numbered, slotCall, tableOf, feedOf, readCall, withPayload, spelledOf, callOf};
 
 // More than a payload may have, so that its refusal can be seen.
 pub const BYTES: usize = 10000;
 
-fn slot(at: At, s: &[u8]) -> Call {
+fn slot(at: At, s: &[u8]) -> Call
+    ensures { λ r. ⌜ r ≡ numbered (slotCall (at .call)) (lastOf (now (s .entry))) ⌝ }
+{
     let r = last(at, s, wrong::NO_SLOT);
     let Spelled::Value(n) = r else {
         return Call::Nothing;
@@ -34,7 +40,9 @@ fn slot(at: At, s: &[u8]) -> Call {
     }
 }
 
-fn table(at: At, s: &[u8]) -> Call {
+fn table(at: At, s: &[u8]) -> Call
+    ensures { λ r. ⌜ r ≡ tableOf (now (s .entry)) ⌝ }
+{
     let r = argument(at, s, wrong::NO_SLOT);
     let Spelled::Value(slot) = r else {
         return Call::Nothing;
@@ -46,7 +54,9 @@ fn table(at: At, s: &[u8]) -> Call {
     Call::Table(slot, n)
 }
 
-fn feed(at: At, s: &[u8], out: &mut [u8]) -> Call {
+fn feed(at: At, s: &[u8], out: &mut [u8]) -> Call
+    ensures { λ r. ⌜ outcome r (now (out .exit)) ≡ feedOf (now (s .entry)) (now (out .entry)) ⌝ }
+{
     let r = argument(at, s, wrong::NO_SLOT);
     let Spelled::Value(slot) = r else {
         return Call::Nothing;
@@ -58,7 +68,9 @@ fn feed(at: At, s: &[u8], out: &mut [u8]) -> Call {
     Call::Feed(slot, p)
 }
 
-fn read(at: At, s: &[u8], out: &mut [u8]) -> Call {
+fn read(at: At, s: &[u8], out: &mut [u8]) -> Call
+    ensures { λ r. ⌜ outcome r (now (out .exit)) ≡ withPayload (readCall (at .call)) (payloadOf (now (s .entry)) (now (out .entry))) ⌝ }
+{
     let given = payload(at, s, out);
     let Given::Payload(p) = given else {
         return Call::Nothing;
@@ -71,7 +83,9 @@ fn read(at: At, s: &[u8], out: &mut [u8]) -> Call {
 }
 
 // The call of a line that is not empty.
-fn spelled(line: u64, s: &[u8], out: &mut [u8]) -> Call {
+fn spelled(line: u64, s: &[u8], out: &mut [u8]) -> Call
+    ensures { λ r. ⌜ outcome r (now (out .exit)) ≡ spelledOf (now (s .entry)) (now (out .entry)) ⌝ }
+{
     let word = first(s);
     let after = rest(s);
     let call = name::place(word);
@@ -102,7 +116,9 @@ fn echo(call: Call, s: &[u8]) {
 }
 
 // The call that a line spells, which is written, and its bytes, which are lent; or what is wrong is said.
-pub fn call(input: Input, line: &[u8; LINE], out: &mut [u8; BYTES]) -> Call {
+pub fn call(input: Input, line: &[u8; LINE], out: &mut [u8; BYTES]) -> Call
+    ensures { λ r. ⌜ outcome r (now (out .exit)) ≡ callOf (input .length) (now (line .entry)) (now (out .entry)) ⌝ }
+{
     if LINE <= input.length {
         wrong::long(input.line);
         return Call::Nothing;

@@ -1,0 +1,5 @@
+pub mod Texts
+pub mod Listed
+pub mod Numbers
+pub mod Payloads
+pub mod Named

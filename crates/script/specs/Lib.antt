@@ -1,0 +1,5 @@
+-- What the contracts of this crate cite.
+pub mod Words
+pub mod Names
+pub mod Payload
+pub mod Line
