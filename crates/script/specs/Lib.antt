@@ -3,3 +3,4 @@ pub mod Words
 pub mod Names
 pub mod Payload
 pub mod Line
+pub mod Input
