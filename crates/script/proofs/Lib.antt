@@ -3,3 +3,4 @@ pub mod Listed
 pub mod Numbers
 pub mod Payloads
 pub mod Named
+pub mod Determined

@@ -6,6 +6,10 @@ use lib.Dec.{eqb, ltb}
 use lib.ListN.{getD, set}
 use Rattle.script.specs.declared.input.Input.{Input}
 
+-- nothing is read
+abbrev pub begun : Input
+begun = record { at = 0; end = 0; line = 1; length = 0; whole = false; over = false }
+
 -- tabs and carriage returns count as spaces
 unfoldable pub plainByte : ℕ → ℕ
 plainByte b = cond (eqb b 9) 32 (cond (eqb b 13) 32 b)

@@ -3,7 +3,7 @@ use libc::STDIN_FILENO;
 ghost use mathlib.Core.Bool.{true, false};
 ghost use mathlib.Core.Path.{_≡_};
 ghost use Prim.Native.Nat.{_≤_};
-ghost use Rattle.script.specs.Input.{plainByte, onwardOf, filledOf, withByte, byteLeft, step, nextOf};
+ghost use Rattle.script.specs.Input.{begun, plainByte, onwardOf, filledOf, withByte, byteLeft, step, nextOf};
 
 // Bytes that are read at once, and one more than a line may have.
 pub const CHUNK: usize = 4096;
@@ -37,7 +37,7 @@ fn plain(b: u8) -> u8
 
 impl Input {
     pub fn start() -> Input
-        ensures { λ r. ⌜ (r .at ≡ 0) × (r .end ≡ 0) × (r .line ≡ 1) × (r .length ≡ 0) × (r .whole ≡ false) × (r .over ≡ false) ⌝ }
+        ensures { λ r. ⌜ r ≡ begun ⌝ }
     {
         Input {
             at: 0,
