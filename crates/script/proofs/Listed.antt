@@ -1,8 +1,8 @@
 -- A list of words with bars, word by word.
 -- Assumes nothing.
 use Prim.Native.Nat.{ℕ, suc, _+_, _-_, _≤_, _<_}
-use mathlib.Core.Path.{_≡_, refl, sym, ap, _∙_}
-use mathlib.Core.Bool.{Bool, true, false, cond}
+use mathlib.Core.Path.{_≡_, refl, ap, _∙_}
+use mathlib.Core.Bool.{Bool, true, false}
 use mathlib.Core.List.{List, [], _∷_}
 use native.Mathlib.Omega.{arith}
 use lib.Dec.{eqb}
@@ -34,7 +34,8 @@ module _ (c : ℕ) (rest : List ℕ) where
 abbrev pub First : List ℕ → Type 0
 First l = wordsOf l ≡ take (indexOf 124 l) l ∷ wordsOf (drop (suc (indexOf 124 l)) l)
 
-first-step : (c : ℕ) (rest : List ℕ) (b : Bool) → eqb c 124 ≡ b → (indexOf 124 rest < length rest → First rest) → indexOf 124 (c ∷ rest) < length (c ∷ rest) → First (c ∷ rest)
+first-step : (c : ℕ) (rest : List ℕ) (b : Bool) → eqb c 124 ≡ b →
+    (indexOf 124 rest < length rest → First rest) → indexOf 124 (c ∷ rest) < length (c ∷ rest) → First (c ∷ rest)
 unfolding longer
 first-step c rest true e ih h = rw (bar c rest e, at-bar c rest e)
 first-step c rest false e ih h = rw (letter c rest e, past-letter c rest e, ih (omega (arith, past-letter c rest e)))
@@ -43,7 +44,8 @@ pub first-word : (l : List ℕ) → indexOf 124 l < length l → First l
 first-word [] h = absurd (omega arith)
 first-word (c ∷ rest) h = first-step c rest (eqb c 124) refl (first-word rest) h
 
-none-step : (c : ℕ) (rest : List ℕ) (b : Bool) → eqb c 124 ≡ b → (length rest ≤ indexOf 124 rest → wordsOf rest ≡ []) → length (c ∷ rest) ≤ indexOf 124 (c ∷ rest) → wordsOf (c ∷ rest) ≡ []
+none-step : (c : ℕ) (rest : List ℕ) (b : Bool) → eqb c 124 ≡ b →
+    (length rest ≤ indexOf 124 rest → wordsOf rest ≡ []) → length (c ∷ rest) ≤ indexOf 124 (c ∷ rest) → wordsOf (c ∷ rest) ≡ []
 unfolding longer
 none-step c rest true e ih h = absurd (omega (arith, at-bar c rest e))
 none-step c rest false e ih h = rw (letter c rest e, ih (omega (arith, past-letter c rest e)))

@@ -1,14 +1,15 @@
 -- The calls by their names, and by the places of these in the list of names.
 -- Assumes nothing.
 use Prim.Native.Nat.{ℕ, suc, _≤_, _<_}
-use mathlib.Core.Path.{_≡_, refl, sym, ap, _∙_}
+use mathlib.Core.Path.{_≡_, refl}
 use mathlib.Core.Bool.{Bool, true, false, cond}
 use mathlib.Core.List.{List}
 use native.Mathlib.Omega.{arith}
-use borrow.Author.Tests.{lt-ltb, le-ltb, eq-eqb, ne-eqb}
+use borrow.Author.Tests.{lt-ltb, le-ltb, ne-eqb}
 use lib.Dec.{eqb, ltb}
 use Rattle.script.specs.Words.{alike, lastOf}
-use Rattle.script.specs.Names.{placeIn, names, open-name, close-name, sequence-name, picture-name, table-name, feed-name, read-name, explain-name, help-name}
+use Rattle.script.specs.Names.{placeIn, names}
+use Rattle.script.specs.Names.{open-name, close-name, sequence-name, picture-name, table-name, feed-name, read-name, explain-name, help-name}
 use Rattle.script.specs.Payload.{payloadOf}
 use Rattle.script.specs.Line.{Outcome, outcome, numbered, withPayload, tableOf, feedOf, named, slotCall, readCall}
 use Rattle.script.specs.declared.call.Call.{Call}
@@ -26,8 +27,18 @@ callAt place s lent =
 
 -- the first name that the word is, by tests of each
 chosen : (s lent : List ℕ) (b0 b1 b2 b3 b4 b5 b6 b7 b8 : Bool)
-    → callAt (cond b0 0 (suc (cond b1 0 (suc (cond b2 0 (suc (cond b3 0 (suc (cond b4 0 (suc (cond b5 0 (suc (cond b6 0 (suc (cond b7 0 (suc (cond b8 0 1))))))))))))))))) s lent
-    ≡ cond b0 (outcome (numbered Open (lastOf s)) lent) (cond b1 (outcome (numbered Close (lastOf s)) lent) (cond b2 (outcome (numbered Sequence (lastOf s)) lent) (cond b3 (outcome (numbered Picture (lastOf s)) lent) (cond b4 (outcome (tableOf s) lent) (cond b5 (feedOf s lent) (cond b6 (withPayload Read (payloadOf s lent)) (cond b7 (withPayload Explain (payloadOf s lent)) (cond b8 (outcome Help lent) (outcome Nothing lent)))))))))
+    → callAt (cond b0 0 (suc (cond b1 0 (suc (cond b2 0 (suc (cond b3 0 (suc (cond b4 0
+    (suc (cond b5 0 (suc (cond b6 0 (suc (cond b7 0 (suc (cond b8 0 1))))))))))))))))) s lent
+    ≡ cond b0 (outcome (numbered Open (lastOf s)) lent)
+    (cond b1 (outcome (numbered Close (lastOf s)) lent)
+    (cond b2 (outcome (numbered Sequence (lastOf s)) lent)
+    (cond b3 (outcome (numbered Picture (lastOf s)) lent)
+    (cond b4 (outcome (tableOf s) lent)
+    (cond b5 (feedOf s lent)
+    (cond b6 (withPayload Read (payloadOf s lent))
+    (cond b7 (withPayload Explain (payloadOf s lent))
+    (cond b8 (outcome Help lent)
+    (outcome Nothing lent)))))))))
 unfolding callAt slotCall readCall
 chosen s lent true b1 b2 b3 b4 b5 b6 b7 b8 = refl
 chosen s lent false true b2 b3 b4 b5 b6 b7 b8 = refl
@@ -43,7 +54,8 @@ chosen s lent false false false false false false false false false = refl
 by-name : (w s lent : List ℕ) → callAt (placeIn names w) s lent ≡ named w s lent
 unfolding placeIn named
 by-name w s lent =
-    chosen s lent (alike open-name w) (alike close-name w) (alike sequence-name w) (alike picture-name w) (alike table-name w) (alike feed-name w) (alike read-name w) (alike explain-name w) (alike help-name w)
+    chosen s lent (alike open-name w) (alike close-name w) (alike sequence-name w) (alike picture-name w) (alike table-name w)
+    (alike feed-name w) (alike read-name w) (alike explain-name w) (alike help-name w)
 
 -- the word's place is found
 pub reached : (w v s t lent : List ℕ) (place : ℕ) → place ≡ placeIn names v → v ≡ w → t ≡ s → callAt place t lent ≡ named w s lent

@@ -45,7 +45,8 @@ module _ (kind : ℕ) (s before : List ℕ) (g : Given) (lent : List ℕ) (e : o
   unfolding sizedAs
   unsized n w = rw (← e, w)
 
-  pub resized : (n : ℕ) (p : given-payload.Payload) → g ≡ Payload p → outcome (Payload (record { kind = p .kind; size = n; count = p .count })) lent ≡ sized kind s before n
+  pub resized : (n : ℕ) (p : given-payload.Payload) → g ≡ Payload p →
+      outcome (Payload (record { kind = p .kind; size = n; count = p .count })) lent ≡ sized kind s before n
   unfolding sizedAs
   resized n p w = rw (← e, w)
 

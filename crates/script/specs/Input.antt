@@ -36,9 +36,11 @@ pub record Step : Type 0 where
 abbrev pub step : Input → List ℕ → Step
 step i line = record { input = i; line = line }
 
+-- the line is whole
 abbrev pub ended : Input → Input
 ended i = record { at = i .at; end = i .end; line = i .line; length = i .length; whole = true; over = i .over }
 
+-- the line has one character more
 abbrev pub longer : Input → Input
 longer i = record { at = i .at; end = i .end; line = i .line; length = i .length + 1; whole = i .whole; over = i .over }
 
@@ -53,6 +55,7 @@ withByte i b line =
 abbrev pub byteLeft : Input → Bool
 byteLeft i = cond (ltb (i .at) (i .end)) (ltb (i .at) 4096) false
 
+-- one byte of the chunk is taken
 abbrev pub taken : Input → Input
 taken i = record { at = i .at + 1; end = i .end; line = i .line; length = i .length; whole = i .whole; over = i .over }
 

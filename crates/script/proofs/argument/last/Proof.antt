@@ -16,7 +16,8 @@ returns c =
     e ∙ no-value _ _ _ _ e (c .match .keys2)
 
 -- what follows decides
-more : (c : tie.After-rest) → alone (c .rest .result .now) (c .before .enum-told .given .0 .0) ≡ lastOf (c .before .before .before .before .before .args .s .now)
+more : (c : tie.After-rest) →
+    alone (c .rest .result .now) (c .before .enum-told .given .0 .0) ≡ lastOf (c .before .before .before .before .before .args .s .now)
 unfolding lastOf
 more c =
     ap (λ (l : List ℕ). alone l (c .before .enum-told .given .0 .0)) (c .rest .ensures)

@@ -7,9 +7,9 @@ use native.Mathlib.Omega.{arith}
 use borrow.Author.Tests.{lt-ltb, le-ltb}
 use lib.ListN.{length, take}
 use borrow.Author.Needs.{needs}
-use Rattle.words.specs.Place.{contentOf, led, run}
+use Rattle.words.specs.Place.{contentOf}
 use Rattle.bytes.specs.Bytes.{indexOf}
-use Rattle.script.specs.Words.{alike, firstOf, restOf}
+use Rattle.script.specs.Words.{alike, firstOf}
 use Rattle.script.specs.Line.{outcome, named, spelledOf, callOf}
 use Rattle.script.specs.declared.call.Call.the-variants.{Nothing}
 use Rattle.script.proofs.line.call.Statement.{statement}

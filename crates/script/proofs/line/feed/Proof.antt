@@ -17,9 +17,13 @@ unfolding feedOf
 returns c = no-value _ _ _ _ (c .before .argument .ensures) (c .match .keys2)
 
 -- the slot's number is spelled
-slot : (c : tie.After-known-told) → let a = c .before .before .before .before .before .before .args in fed (restOf (a .s .now)) (a .out .now) (c .before .r .given .0 .0) ≡ feedOf (a .s .now) (a .out .now)
+slot : (c : tie.After-known-told) →
+    let a = c .before .before .before .before .before .before .args in
+    fed (restOf (a .s .now)) (a .out .now) (c .before .r .given .0 .0) ≡ feedOf (a .s .now) (a .out .now)
 unfolding feedOf
-slot c = let a = c .before .before .before .before .before .before .args in value (fed (restOf (a .s .now)) (a .out .now)) _ _ _ _ (c .before .before .before .argument .ensures) (c .before .r .given .1)
+slot c =
+    let a = c .before .before .before .before .before .before .args in
+    value (fed (restOf (a .s .now)) (a .out .now)) _ _ _ _ (c .before .before .before .argument .ensures) (c .before .r .given .1)
 
 -- the payload is that of the rest
 abbrev payload : (lent : List ℕ) {s t : List ℕ} → s ≡ t → payloadOf s lent ≡ payloadOf t lent

@@ -2,7 +2,7 @@
 -- Assumes nothing.
 use Prim.Native.Nat.{ℕ}
 use mathlib.Core.Path.{_≡_, _∙_}
-use borrow.Author.Tests.{eq-eqb, ne-eqb}
+use borrow.Author.Tests.{ne-eqb}
 use borrow.Author.Needs.{needs}
 use Rattle.script.specs.Words.{lastOf}
 use Rattle.script.specs.Line.{numbered, slotCall}
@@ -28,7 +28,9 @@ unfolding slotCall
 pictures place n h i j = rw (ne-eqb place 0 h, ne-eqb place 1 i, ne-eqb place 2 j)
 
 -- the slot's number is spelled
-numbers : (c : tie.After-known-told) → slotCall (c .before .before .before .before .before .args .at .call) (c .before .r .given .0 .0) ≡ numbered (slotCall (c .before .before .before .before .before .args .at .call)) (lastOf (c .before .before .before .before .before .args .s .now))
+numbers : (c : tie.After-known-told) →
+    let a = c .before .before .before .before .before .args in
+    slotCall (a .at .call) (c .before .r .given .0 .0) ≡ numbered (slotCall (a .at .call)) (lastOf (a .s .now))
 numbers c = value _ _ _ _ _ (c .before .before .before .last .ensures) (c .before .r .given .1)
 
 returns : tie.Need-returns

@@ -7,7 +7,9 @@ use Rattle.script.proofs.Named.{callAt, reached, at-slot, at-table, at-
 use Rattle.script.proofs.line.spelled.Statement.{statement}
 use Rattle.script.proofs.line.spelled.Tie as tie
 
-here : (c : tie.After-place) → let a = c .before .before .before .before .before .args in callAt (c .place .result) (c .before .rest .result .now) (a .out .now) ≡ spelledOf (a .s .now) (a .out .now)
+here : (c : tie.After-place) →
+    let a = c .before .before .before .before .before .args in
+    callAt (c .place .result) (c .before .rest .result .now) (a .out .now) ≡ spelledOf (a .s .now) (a .out .now)
 unfolding spelledOf
 here c = reached _ _ _ _ _ _ (c .place .ensures) (c .before .before .first .ensures) (c .before .rest .ensures)
 

@@ -3,7 +3,7 @@
 use mathlib.Core.Path.{_≡_, ap, _∙_}
 use borrow.Author.Needs.{needs}
 use Rattle.script.specs.Words.{lastOf, restOf}
-use Rattle.script.specs.Line.{numbered, tabled, tableOf}
+use Rattle.script.specs.Line.{tabled, tableOf}
 use Rattle.script.proofs.Numbers.{value, no-value}
 use Rattle.script.proofs.line.table.Statement.{statement}
 use Rattle.script.proofs.line.table.Tie as tie
@@ -13,7 +13,9 @@ unfolding tableOf
 returns c = no-value _ _ _ _ (c .before .argument .ensures) (c .match .keys2)
 
 -- the slot's number is spelled
-slot : (c : tie.After-known-told) → tabled (restOf (c .before .before .before .before .before .args .s .now)) (c .before .r .given .0 .0) ≡ tableOf (c .before .before .before .before .before .args .s .now)
+slot : (c : tie.After-known-told) →
+    let a = c .before .before .before .before .before .args in
+    tabled (restOf (a .s .now)) (c .before .r .given .0 .0) ≡ tableOf (a .s .now)
 unfolding tableOf
 slot c = value (tabled _) _ _ _ _ (c .before .before .before .argument .ensures) (c .before .r .given .1)
 

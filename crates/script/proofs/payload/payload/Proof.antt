@@ -21,9 +21,13 @@ unfolding payloadOf
 returns c = no-value _ _ _ _ (c .before .argument .ensures) (c .match .keys2)
 
 -- the kind is spelled
-kind : (c : tie.After-known-told) → let a = c .before .before .before .before .before .before .args in bytesOf (restOf (a .s .now)) (a .out .now) (c .before .r .given .0 .0) ≡ payloadOf (a .s .now) (a .out .now)
+kind : (c : tie.After-known-told) →
+    let a = c .before .before .before .before .before .before .args in
+    bytesOf (restOf (a .s .now)) (a .out .now) (c .before .r .given .0 .0) ≡ payloadOf (a .s .now) (a .out .now)
 unfolding payloadOf
-kind c = let a = c .before .before .before .before .before .before .args in value (bytesOf (restOf (a .s .now)) (a .out .now)) _ _ _ _ (c .before .before .before .argument .ensures) (c .before .r .given .1)
+kind c =
+    let a = c .before .before .before .before .before .before .args in
+    value (bytesOf (restOf (a .s .now)) (a .out .now)) _ _ _ _ (c .before .before .before .argument .ensures) (c .before .r .given .1)
 
 -- what follows it
 after : (c : tie.After-rest) (o : Outcome) → let a = c .before .before .before .before .before .before .before .args in

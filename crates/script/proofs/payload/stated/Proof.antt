@@ -16,9 +16,13 @@ unfolding statedOf
 returns c = no-value _ _ _ _ (c .before .argument .ensures) (c .match .keys2)
 
 -- the size is spelled
-size : (c : tie.After-known-told) → let a = c .before .before .before .before .before .before .args in sized (a .kind) (restOf (a .s .now)) (a .out .now) (c .before .size .given .0 .0) ≡ statedOf (a .kind) (a .s .now) (a .out .now)
+size : (c : tie.After-known-told) →
+    let a = c .before .before .before .before .before .before .args in
+    sized (a .kind) (restOf (a .s .now)) (a .out .now) (c .before .size .given .0 .0) ≡ statedOf (a .kind) (a .s .now) (a .out .now)
 unfolding statedOf
-size c = let a = c .before .before .before .before .before .before .args in value (sized (a .kind) (restOf (a .s .now)) (a .out .now)) _ _ _ _ (c .before .before .before .argument .ensures) (c .before .size .given .1)
+size c =
+    let a = c .before .before .before .before .before .before .args in
+    value (sized (a .kind) (restOf (a .s .now)) (a .out .now)) _ _ _ _ (c .before .before .before .argument .ensures) (c .before .size .given .1)
 
 -- the bytes are those of the rest
 abbrev bytes : (kind : ℕ) (lent : List ℕ) {s t : List ℕ} → s ≡ t → plainOf kind s lent ≡ plainOf kind t lent

@@ -9,7 +9,8 @@ use Rattle.script.specs.declared.input.Input.{Input}
 use Rattle.script.proofs.input.Input.onward.Statement.{statement}
 use Rattle.script.proofs.input.Input.onward.Tie as tie
 
-begins : (i : Input) (n : ℕ) → i .whole ≡ true → n ≡ (i .line + 1) % 2 ^ 64 → record { at = i .at; end = i .end; line = n; length = 0; whole = false; over = i .over } ≡ onwardOf i
+begins : (i : Input) (n : ℕ) → i .whole ≡ true → n ≡ (i .line + 1) % 2 ^ 64 →
+    record { at = i .at; end = i .end; line = n; length = 0; whole = false; over = i .over } ≡ onwardOf i
 unfolding onwardOf
 begins i n h e = rw (h, e)
 
