@@ -1,12 +1,12 @@
 // The calls that read a payload.
 use answers::Answer;
+use lent::front;
 use reader::payload;
 use reader::user::user_part;
 use script::call::Payload;
 use script::line::BYTES;
 use show::style::Style;
 use slots::Slots;
-use words::place::front;
 ghost use mathlib.Core.Path.{_≡_};
 ghost use lib.ListN.{take};
 ghost use Rattle.feeding.specs.Feed.{fedTo};

@@ -10,7 +10,7 @@ use denote.Triple.Clauses.{AtExit}
 use denote.Ref.{now}
 use borrow.Fn.Kinds.{Dens, resT, endedOf}
 use Rattle.bits.proofs.Determined.{Determines, DeterminesAll}
-use Rattle.script.specs.Line.{Outcome}
+use Rattle.lent.proofs.Stores.{same-left}
 use Rattle.script.specs.Input.{Step, onwardOf, byteLeft, further, nextOf}
 use Rattle.script.specs.declared.input.Input.{Input}
 use Rattle.script.proofs.line.call.Kinds as call-kinds
@@ -21,7 +21,7 @@ use Rattle.script.proofs.input.Input.next.Kinds as next-kinds
 use Rattle.script.proofs.input.Input.next.Reads as next-reads
 
 pub call-determined : DeterminesAll 2 call-kinds.ps call-kinds.r (λ κs s. now (s .1 .1 .0)) call-reads.Post
-call-determined κs a x y s t p q = let e = p ∙ sym q in (ap (λ (o : Outcome). o .call) e, ap (λ (o : Outcome). o .lent) e)
+call-determined κs a x y s t p q = same-left (p ∙ sym q)
 
 pub start-determined : Determines 0 start-kinds.ps start-kinds.r start-reads.Post
 start-determined κs a x y s t p q = p ∙ sym q

@@ -11,34 +11,35 @@ use Rattle.script.specs.Words.{alike, lastOf}
 use Rattle.script.specs.Names.{placeIn, names}
 use Rattle.script.specs.Names.{open-name, close-name, sequence-name, picture-name, table-name, feed-name, read-name, explain-name, help-name}
 use Rattle.script.specs.Payload.{payloadOf}
-use Rattle.script.specs.Line.{Outcome, outcome, numbered, withPayload, tableOf, feedOf, named, slotCall, readCall}
+use Rattle.lent.specs.Lent.{Left, left}
+use Rattle.script.specs.Line.{numbered, withPayload, tableOf, feedOf, named, slotCall, readCall}
 use Rattle.script.specs.declared.call.Call.{Call}
 use Rattle.script.specs.declared.call.Call.the-variants.{Open, Close, Sequence, Picture, Read, Explain, Help, Nothing}
 
 -- the call at a place
-pub callAt : ℕ → List ℕ → List ℕ → Outcome
+pub callAt : ℕ → List ℕ → List ℕ → Left Call
 callAt place s lent =
-    cond (ltb place 4) (outcome (numbered (slotCall place) (lastOf s)) lent)
-    (cond (eqb place 4) (outcome (tableOf s) lent)
+    cond (ltb place 4) (left (numbered (slotCall place) (lastOf s)) lent)
+    (cond (eqb place 4) (left (tableOf s) lent)
     (cond (eqb place 5) (feedOf s lent)
     (cond (ltb place 8) (withPayload (readCall place) (payloadOf s lent))
-    (cond (eqb place 8) (outcome Help lent)
-    (outcome Nothing lent)))))
+    (cond (eqb place 8) (left Help lent)
+    (left Nothing lent)))))
 
 -- the first name that the word is, by tests of each
 chosen : (s lent : List ℕ) (b0 b1 b2 b3 b4 b5 b6 b7 b8 : Bool)
     → callAt (cond b0 0 (suc (cond b1 0 (suc (cond b2 0 (suc (cond b3 0 (suc (cond b4 0
     (suc (cond b5 0 (suc (cond b6 0 (suc (cond b7 0 (suc (cond b8 0 1))))))))))))))))) s lent
-    ≡ cond b0 (outcome (numbered Open (lastOf s)) lent)
-    (cond b1 (outcome (numbered Close (lastOf s)) lent)
-    (cond b2 (outcome (numbered Sequence (lastOf s)) lent)
-    (cond b3 (outcome (numbered Picture (lastOf s)) lent)
-    (cond b4 (outcome (tableOf s) lent)
+    ≡ cond b0 (left (numbered Open (lastOf s)) lent)
+    (cond b1 (left (numbered Close (lastOf s)) lent)
+    (cond b2 (left (numbered Sequence (lastOf s)) lent)
+    (cond b3 (left (numbered Picture (lastOf s)) lent)
+    (cond b4 (left (tableOf s) lent)
     (cond b5 (feedOf s lent)
     (cond b6 (withPayload Read (payloadOf s lent))
     (cond b7 (withPayload Explain (payloadOf s lent))
-    (cond b8 (outcome Help lent)
-    (outcome Nothing lent)))))))))
+    (cond b8 (left Help lent)
+    (left Nothing lent)))))))))
 unfolding callAt slotCall readCall
 chosen s lent true b1 b2 b3 b4 b5 b6 b7 b8 = refl
 chosen s lent false true b2 b3 b4 b5 b6 b7 b8 = refl
@@ -63,11 +64,11 @@ reached w v s t lent place p q r = rw (p, q, r) (by-name w s lent)
 
 -- what a function answers at a place is the call there
 module _ (place : ℕ) (s lent : List ℕ) where
-  pub at-slot : (r : Call) → r ≡ numbered (slotCall place) (lastOf s) → place < 4 → outcome r lent ≡ callAt place s lent
+  pub at-slot : (r : Call) → r ≡ numbered (slotCall place) (lastOf s) → place < 4 → left r lent ≡ callAt place s lent
   unfolding callAt
   at-slot r e h = rw (lt-ltb place 4 h, e)
 
-  pub at-table : (r : Call) → r ≡ tableOf s → place ≡ 4 → outcome r lent ≡ callAt place s lent
+  pub at-table : (r : Call) → r ≡ tableOf s → place ≡ 4 → left r lent ≡ callAt place s lent
   unfolding callAt
   at-table r e h = rw (h, e)
 
@@ -75,7 +76,7 @@ module _ (place : ℕ) (s lent : List ℕ) where
   unfolding callAt
   at-feed h = rw h
 
-  pub at-help : place ≡ 8 → outcome Help lent ≡ callAt place s lent
+  pub at-help : place ≡ 8 → left Help lent ≡ callAt place s lent
   unfolding callAt
   at-help h = rw h
 
@@ -83,6 +84,6 @@ module _ (place : ℕ) (s lent : List ℕ) where
   unfolding callAt
   at-read h i j k = rw (le-ltb place 4 h, ne-eqb place 4 i, ne-eqb place 5 j, lt-ltb place 8 k)
 
-  pub at-none : 8 ≤ place → (place ≡ 8 → ⊥) → outcome Nothing lent ≡ callAt place s lent
+  pub at-none : 8 ≤ place → (place ≡ 8 → ⊥) → left Nothing lent ≡ callAt place s lent
   unfolding callAt
   at-none h i = rw (le-ltb place 4 (omega arith), ne-eqb place 4 (λ e. omega arith), ne-eqb place 5 (λ e. omega arith), le-ltb place 8 h, ne-eqb place 8 i)

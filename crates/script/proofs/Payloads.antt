@@ -8,11 +8,9 @@ use types.Run.{OneOf, miss}
 use Rattle.words.proofs.hex.Hex.{the-type}
 use Rattle.words.specs.declared.hex.Hex.{Hex}
 use Rattle.words.specs.declared.hex.Hex.the-variants.{Bytes, Odd, Foreign, Long}
-use Rattle.words.specs.Hex as hex
-use Rattle.script.specs.Payload.{outcome, givenBy, counted, plainOf, sizedAs, sized}
-use Rattle.script.specs.Payload as payload
+use Rattle.lent.specs.Lent.{Left, left}
+use Rattle.script.specs.Payload.{givenBy, counted, plainOf, sizedAs, sized}
 use Rattle.script.specs.Line.{paid, withPayload}
-use Rattle.script.specs.Line as line
 use Rattle.script.specs.declared.call.Call.{Call}
 use Rattle.script.specs.declared.call.Call.the-variants.{Nothing}
 use Rattle.script.specs.declared.call.Payload as given-payload
@@ -31,31 +29,31 @@ none kind (Foreign i) h = refl
 none kind Long h = refl
 
 -- bytes are read, and o is what that comes to
-module _ (kind : ℕ) (r : Hex) (lent : List ℕ) (o : hex.Outcome) (e : hex.outcome r lent ≡ o) where
-  pub no-bytes : OneOf others (tagOf the-type r) → outcome Wrong lent ≡ counted kind o
-  no-bytes h = ap (λ (g : Given). outcome g lent) (none kind r h) ∙ ap (counted kind) e
+module _ (kind : ℕ) (r : Hex) (lent : List ℕ) (o : Left Hex) (e : left r lent ≡ o) where
+  pub no-bytes : OneOf others (tagOf the-type r) → left Wrong lent ≡ counted kind o
+  no-bytes h = ap (λ (g : Given). left g lent) (none kind r h) ∙ ap (counted kind) e
 
-  pub some-bytes : (n : ℕ) → r ≡ Bytes n → outcome (Payload (record { kind = kind; size = n; count = n })) lent ≡ counted kind o
+  pub some-bytes : (n : ℕ) → r ≡ Bytes n → left (Payload (record { kind = kind; size = n; count = n })) lent ≡ counted kind o
   unfolding givenBy
   some-bytes n v = rw (← e, v)
 
 -- bytes are given, and a size besides
-module _ (kind : ℕ) (s before : List ℕ) (g : Given) (lent : List ℕ) (e : outcome g lent ≡ plainOf kind s before) where
-  pub unsized : (n : ℕ) → g ≡ Wrong → outcome g lent ≡ sized kind s before n
+module _ (kind : ℕ) (s before : List ℕ) (g : Given) (lent : List ℕ) (e : left g lent ≡ plainOf kind s before) where
+  pub unsized : (n : ℕ) → g ≡ Wrong → left g lent ≡ sized kind s before n
   unfolding sizedAs
   unsized n w = rw (← e, w)
 
   pub resized : (n : ℕ) (p : given-payload.Payload) → g ≡ Payload p →
-      outcome (Payload (record { kind = p .kind; size = n; count = p .count })) lent ≡ sized kind s before n
+      left (Payload (record { kind = p .kind; size = n; count = p .count })) lent ≡ sized kind s before n
   unfolding sizedAs
   resized n p w = rw (← e, w)
 
 -- a payload is given, and o is what that comes to
-module _ (g : Given) (lent : List ℕ) (o : payload.Outcome) (e : outcome g lent ≡ o) where
-  pub unpaid : (f : given-payload.Payload → Call) → g ≡ Wrong → line.outcome Nothing lent ≡ withPayload f o
+module _ (g : Given) (lent : List ℕ) (o : Left Given) (e : left g lent ≡ o) where
+  pub unpaid : (f : given-payload.Payload → Call) → g ≡ Wrong → left Nothing lent ≡ withPayload f o
   unfolding paid
   unpaid f w = rw (← e, w)
 
-  pub repaid : (f : given-payload.Payload → Call) (p : given-payload.Payload) (k : Call) → k ≡ f p → g ≡ Payload p → line.outcome k lent ≡ withPayload f o
+  pub repaid : (f : given-payload.Payload → Call) (p : given-payload.Payload) (k : Call) → k ≡ f p → g ≡ Payload p → left k lent ≡ withPayload f o
   unfolding paid
   repaid f p k q w = rw (← e, w, q)

@@ -12,14 +12,15 @@ use crate::payload::payload;
 use crate::wrong;
 use crate::wrong::At;
 use crate::wrong::wrong;
+use lent::front;
 use print::text;
 use words::number::Spelled;
 use words::place::content;
-use words::place::front;
 ghost use mathlib.Core.Path.{_≡_};
 ghost use Rattle.script.specs.Words.{lastOf};
 ghost use Rattle.script.specs.Payload.{payloadOf};
-ghost use Rattle.script.specs.Line.{outcome, numbered, slotCall, tableOf, feedOf, readCall, withPayload, spelledOf, callOf};
+ghost use Rattle.lent.specs.Lent.{left};
+ghost use Rattle.script.specs.Line.{numbered, slotCall, tableOf, feedOf, readCall, withPayload, spelledOf, callOf};
 
 // More than a payload may have, so that its refusal can be seen.
 pub const BYTES: usize = 10000;
@@ -55,7 +56,7 @@ fn table(at: At, s: &[u8]) -> Call
 }
 
 fn feed(at: At, s: &[u8], out: &mut [u8]) -> Call
-    ensures { λ r. ⌜ outcome r (now (out .exit)) ≡ feedOf (now (s .entry)) (now (out .entry)) ⌝ }
+    ensures { λ r. ⌜ left r (now (out .exit)) ≡ feedOf (now (s .entry)) (now (out .entry)) ⌝ }
 {
     let r = argument(at, s, wrong::NO_SLOT);
     let Spelled::Value(slot) = r else {
@@ -69,7 +70,7 @@ fn feed(at: At, s: &[u8], out: &mut [u8]) -> Call
 }
 
 fn read(at: At, s: &[u8], out: &mut [u8]) -> Call
-    ensures { λ r. ⌜ outcome r (now (out .exit)) ≡ withPayload (readCall (at .call)) (payloadOf (now (s .entry)) (now (out .entry))) ⌝ }
+    ensures { λ r. ⌜ left r (now (out .exit)) ≡ withPayload (readCall (at .call)) (payloadOf (now (s .entry)) (now (out .entry))) ⌝ }
 {
     let given = payload(at, s, out);
     let Given::Payload(p) = given else {
@@ -84,7 +85,7 @@ fn read(at: At, s: &[u8], out: &mut [u8]) -> Call
 
 // The call of a line that is not empty.
 fn spelled(line: u64, s: &[u8], out: &mut [u8]) -> Call
-    ensures { λ r. ⌜ outcome r (now (out .exit)) ≡ spelledOf (now (s .entry)) (now (out .entry)) ⌝ }
+    ensures { λ r. ⌜ left r (now (out .exit)) ≡ spelledOf (now (s .entry)) (now (out .entry)) ⌝ }
 {
     let word = first(s);
     let after = rest(s);
@@ -117,7 +118,7 @@ fn echo(call: Call, s: &[u8]) {
 
 // The call that a line spells, which is written, and its bytes, which are lent; or what is wrong is said.
 pub fn call(input: Input, line: &[u8; LINE], out: &mut [u8; BYTES]) -> Call
-    ensures { λ r. ⌜ outcome r (now (out .exit)) ≡ callOf (input .length) (now (line .entry)) (now (out .entry)) ⌝ }
+    ensures { λ r. ⌜ left r (now (out .exit)) ≡ callOf (input .length) (now (line .entry)) (now (out .entry)) ⌝ }
 {
     if LINE <= input.length {
         wrong::long(input.line);

@@ -10,8 +10,8 @@ use words::hex::bytes;
 use words::number::Spelled;
 ghost use mathlib.Core.Path.{_≡_};
 ghost use Rattle.words.specs.Hex.{spelling, into};
-ghost use Rattle.words.specs.Hex as hex;
-ghost use Rattle.script.specs.Payload.{outcome, plainOf, statedOf, payloadOf};
+ghost use Rattle.lent.specs.Lent.{left};
+ghost use Rattle.script.specs.Payload.{plainOf, statedOf, payloadOf};
 
 pub enum Given {
     Payload(Payload),
@@ -21,7 +21,7 @@ pub enum Given {
 
 // How many bytes a text spells. What is wrong with them has been said.
 fn count(at: At, s: &[u8], out: &mut [u8]) -> Hex
-    ensures { λ r. ⌜ hex.outcome r (now (out .exit)) ≡ into (now (out .entry)) (spelling 0 0 (now (s .entry))) ⌝ }
+    ensures { λ r. ⌜ left r (now (out .exit)) ≡ into (now (out .entry)) (spelling 0 0 (now (s .entry))) ⌝ }
 {
     let r = bytes(s, out);
     match r {
@@ -39,7 +39,7 @@ fn count(at: At, s: &[u8], out: &mut [u8]) -> Hex
 
 // Bytes alone: their count is the size.
 fn plain(at: At, kind: u64, s: &[u8], out: &mut [u8]) -> Given
-    ensures { λ r. ⌜ outcome r (now (out .exit)) ≡ plainOf kind (now (s .entry)) (now (out .entry)) ⌝ }
+    ensures { λ r. ⌜ left r (now (out .exit)) ≡ plainOf kind (now (s .entry)) (now (out .entry)) ⌝ }
 {
     let r = count(at, s, out);
     let Hex::Bytes(n) = r else {
@@ -54,7 +54,7 @@ fn plain(at: At, kind: u64, s: &[u8], out: &mut [u8]) -> Given
 
 // The size, and then the bytes.
 fn stated(at: At, kind: u64, s: &[u8], out: &mut [u8]) -> Given
-    ensures { λ r. ⌜ outcome r (now (out .exit)) ≡ statedOf kind (now (s .entry)) (now (out .entry)) ⌝ }
+    ensures { λ r. ⌜ left r (now (out .exit)) ≡ statedOf kind (now (s .entry)) (now (out .entry)) ⌝ }
 {
     let size = argument(at, s, wrong::NO_SIZE);
     let Spelled::Value(n) = size else {
@@ -70,7 +70,7 @@ fn stated(at: At, kind: u64, s: &[u8], out: &mut [u8]) -> Given
 }
 
 pub fn payload(at: At, s: &[u8], out: &mut [u8]) -> Given
-    ensures { λ r. ⌜ outcome r (now (out .exit)) ≡ payloadOf (now (s .entry)) (now (out .entry)) ⌝ }
+    ensures { λ r. ⌜ left r (now (out .exit)) ≡ payloadOf (now (s .entry)) (now (out .entry)) ⌝ }
 {
     let r = argument(at, s, wrong::NO_KIND);
     let Spelled::Value(kind) = r else {

@@ -10,13 +10,14 @@ use borrow.Author.Needs.{needs}
 use Rattle.words.specs.Place.{contentOf}
 use Rattle.bytes.specs.Bytes.{indexOf}
 use Rattle.script.specs.Words.{alike, firstOf}
-use Rattle.script.specs.Line.{outcome, named, spelledOf, callOf}
+use Rattle.lent.specs.Lent.{left}
+use Rattle.script.specs.Line.{named, spelledOf, callOf}
 use Rattle.script.specs.declared.call.Call.the-variants.{Nothing}
 use Rattle.script.proofs.line.call.Statement.{statement}
 use Rattle.script.proofs.line.call.Tie as tie
 
 module _ (n : ℕ) (line lent : List ℕ) where
-  too-long : 32768 ≤ n → outcome Nothing lent ≡ callOf n line lent
+  too-long : 32768 ≤ n → left Nothing lent ≡ callOf n line lent
   unfolding callOf
   too-long h = rw (le-ltb n 32768 h)
 
@@ -25,7 +26,7 @@ module _ (n : ℕ) (line lent : List ℕ) where
   fits h = rw (lt-ltb n 32768 h)
 
 -- no name is empty
-blank : (s lent : List ℕ) → length s ≡ 0 → outcome Nothing lent ≡ spelledOf s lent
+blank : (s lent : List ℕ) → length s ≡ 0 → left Nothing lent ≡ spelledOf s lent
 unfolding spelledOf named firstOf alike indexOf
 blank [] lent h = refl
 blank (x ∷ s) lent h = absurd (omega arith)

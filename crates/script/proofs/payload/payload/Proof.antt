@@ -10,7 +10,9 @@ use lib.ListN.{length, length-drop, take, drop}
 use lib.Seq.{take-all}
 use borrow.Author.Needs.{needs}
 use Rattle.script.specs.Words.{alike, restOf}
-use Rattle.script.specs.Payload.{Outcome, plainOf, statedOf, size-is, bytesOf, payloadOf}
+use Rattle.lent.specs.Lent.{Left}
+use Rattle.script.specs.declared.payload.Given.{Given}
+use Rattle.script.specs.Payload.{plainOf, statedOf, size-is, bytesOf, payloadOf}
 use Rattle.script.proofs.Texts.{tested, too-short}
 use Rattle.script.proofs.Numbers.{value, no-value}
 use Rattle.script.proofs.payload.payload.Statement.{statement}
@@ -30,7 +32,7 @@ kind c =
     value (bytesOf (restOf (a .s .now)) (a .out .now)) _ _ _ _ (c .before .before .before .argument .ensures) (c .before .r .given .1)
 
 -- what follows it
-after : (c : tie.After-rest) (o : Outcome) → let a = c .before .before .before .before .before .before .before .args in
+after : (c : tie.After-rest) (o : Left Given) → let a = c .before .before .before .before .before .before .before .args in
     o ≡ bytesOf (c .rest .result .now) (a .out .now) (c .before .before .r .given .0 .0) → o ≡ payloadOf (a .s .now) (a .out .now)
 after c o e =
     let a = c .before .before .before .before .before .before .before .args in
