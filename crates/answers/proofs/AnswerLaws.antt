@@ -1,7 +1,7 @@
 -- What reading a payload came to, and its answer: each can be had from the other, kind and record too.
 -- Assumes nothing.
 use Prim.Native.Nat.{ℕ}
-use mathlib.Core.Path.{_≡_, refl, sym, ap, _∙_}
+use mathlib.Core.Path.{_≡_, refl, sym, _∙_}
 use Rattle.bits.specs.declared.refusal.Refusal.{Refusal}
 use Rattle.format.specs.Whole.{Reading, taken, setAside, refused}
 use Rattle.answers.specs.Listed.{Record, zeros}

@@ -1,5 +1,6 @@
 // The calls that read a payload.
 use answers::Answer;
+use fields::record::PACKING_FIELDS;
 use lent::front;
 use reader::payload;
 use reader::user::user_part;
@@ -11,11 +12,9 @@ ghost use mathlib.Core.Path.{_≡_};
 ghost use lib.ListN.{take};
 ghost use Rattle.feeding.specs.Feed.{fedTo};
 
-// The numbers of the longest record.
-const ROW: usize = 313;
-
 fn shown(style: Style, answer: Answer, p: Payload, bytes: &[u8]) {
-    let mut row = [0u64; ROW];
+    // a packing has the longest row
+    let mut row = [0u64; PACKING_FIELDS];
     let n = handing::write(&mut row, answer);
     let part = user_part(p.kind, p.size, bytes);
     show::answer::answer(style, n, p.kind, p.size, &row, part);

@@ -16,7 +16,7 @@ use Rattle.bits.specs.Tail.{tailOf, tailAt}
 use Rattle.bits.specs.declared.ending.Ending.{Ending}
 use Rattle.bits.specs.declared.ending.Ending.the-variants.{Extension, Refused}
 use Rattle.bits.specs.declared.refusal.Refusal.{Refusal}
-use Rattle.bits.specs.declared.refusal.Refusal.the-variants.{Short, Zeros, Rule, Regions, Tail}
+use Rattle.bits.specs.declared.refusal.Refusal.the-variants.{Tail}
 use Rattle.bits.proofs.BitLaws.{drop-from}
 use Rattle.bits.proofs.Reading.{tail-permitted, tail-refused, tail-seen}
 use Rattle.format.specs.Format.{Element, Format, done, read, meaning, run, runAt}

@@ -7,12 +7,9 @@ use mathlib.Core.Logic.{_≢_, _⊎_, inl, inr}
 use lib.Dec.{eqb}
 use borrow.Author.Tests.{ne-eqb}
 use Rattle.answers.specs.Listed.{Record, zeros, number}
-use Rattle.answers.specs.Answer.{messageOf, made}
+use Rattle.answers.specs.Answer.{made}
 use Rattle.answers.specs.declared.kind.Kind.{Kind}
 use Rattle.answers.specs.declared.kind.Kind.the-variants as kinds
-use Rattle.answers.specs.declared.Answer.{Answer}
-use Rattle.answers.specs.declared.Message.{Message}
-use Rattle.answers.specs.declared.Message.the-variants as message
 use Rattle.answers.specs.declared.Outcome.the-variants.{Taken}
 use Rattle.format.specs.Syntax.{if_then_else_}
 use Rattle.held.specs.Held.{

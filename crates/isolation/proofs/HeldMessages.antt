@@ -3,17 +3,15 @@
 -- Assumes nothing.
 use Prim.Native.Nat.{ℕ}
 use native.Mathlib.Omega.{arith}
-use mathlib.Core.Path.{_≡_, refl, sym, ap, _∙_, subst}
+use mathlib.Core.Path.{_≡_, ap, subst}
 use mathlib.Core.Bool.{Bool, true, false}
 use mathlib.Core.List.{List, [], _∷_, _++_}
-use Rattle.format.specs.Coded.{Coded}
 use Rattle.regions.specs.declared.Packing.{Packing}
 use Rattle.regions.proofs.Kept as regions
 use Rattle.rows.specs.Rows.{Countable}
 use Rattle.answers.specs.Listed.{Record}
 use Rattle.answers.specs.Answer.{numberOf, made}
 use Rattle.reader.specs.Reader.{answerTo}
-use Rattle.answers.specs.declared.Answer.{Answer}
 use Rattle.answers.specs.declared.Outcome.the-variants.{Taken}
 use Rattle.reader.proofs.Demand2.{answer-0}
 use Rattle.format.specs.Syntax.{if_then_else_}

@@ -1,7 +1,7 @@
 -- Kinds 4 and 5, on any size and bytes: what is answered exactly when, and which part of the lent bytes is handed back.
 -- Assumes nothing.
 use Prim.Native.Nat.{ℕ, _-_, _≤_, _<_}
-use mathlib.Core.Path.{_≡_, refl, sym, ap, _∙_, subst}
+use mathlib.Core.Path.{_≡_, refl, sym, ap, _∙_}
 use mathlib.Core.Logic.{_≢_, _↔_, _⊎_, inl, inr}
 use mathlib.Core.Bool.{cond}
 use mathlib.Core.List.{List, []}
@@ -19,7 +19,7 @@ use Rattle.format.specs.Whole.{Reading, taken, setAside, refused}
 use Rattle.user_data.specs.Registered.{headBytes}
 use Rattle.answers.specs.Listed.{Record, number as kindNumber, readingOf}
 use Rattle.answers.specs.Answer.{outcomeNumber, numberOf, messageOf, answerFor, made, refusedAs}
-use Rattle.reader.specs.Reader.{answerTo, Over, Within}
+use Rattle.reader.specs.Reader.{answerTo, Over}
 use Rattle.reader.specs.User.{startIn, startFor, startOf, partFrom, userPart}
 use Rattle.answers.specs.declared.kind.Kind.{Kind}
 use Rattle.answers.specs.declared.kind.Kind.the-variants as kinds

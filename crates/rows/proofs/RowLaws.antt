@@ -3,12 +3,11 @@
 use Prim.Native.Nat.{ℕ, _+_, _*_, _≤_, _<_}
 use mathlib.Core.Path.{_≡_, refl, sym, ap, _∙_}
 use mathlib.Core.List.{List, [], _∷_, _++_, append-assoc}
-use native.Mathlib.Nat.{zero-add}
 use native.Mathlib.Numerals.{add-one}
 use native.Mathlib.Omega.{arith}
 use borrow.Author.Tests.{le-leb, lt-leb}
-use lib.ListN.{length, getD, take, drop, length-append}
-use lib.Seq.{sets, sets-eq, take-suc, length-take-le}
+use lib.ListN.{length, getD, take, length-append}
+use lib.Seq.{sets, take-suc, length-take-le}
 use Rattle.bits.specs.Refusals.{byRows}
 use Rattle.lent.proofs.Stores.{sets-append, sets-front}
 use Rattle.region.specs.declared.Region.{Region}
