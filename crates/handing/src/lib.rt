@@ -20,7 +20,7 @@ fn hand(row: &mut [u64], number: u32, fields: &[u64]) -> u32
     number
 }
 
-pub fn hand_out(row: &mut [u64], number: u32, a: Answer) -> u32
+fn hand_out(row: &mut [u64], number: u32, a: Answer) -> u32
     ensures { λ r. ⌜ left r (now (row .exit)) ≡ handed number (fieldsOf a) (now (row .entry)) ⌝ }
 {
     let extension = a.extension;

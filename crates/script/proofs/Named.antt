@@ -12,9 +12,9 @@ use Rattle.script.specs.Names.{placeIn, names}
 use Rattle.script.specs.Names.{open-name, close-name, sequence-name, picture-name, table-name, feed-name, read-name, explain-name, help-name}
 use Rattle.script.specs.Payload.{payloadOf}
 use Rattle.lent.specs.Lent.{Left, left}
-use Rattle.script.specs.Line.{numbered, withPayload, tableOf, feedOf, named, slotCall, readCall}
+use Rattle.script.specs.Line.{numbered, withPayload, tableOf, feedOf, helpOf, named, slotCall, readCall}
 use Rattle.script.specs.declared.call.Call.{Call}
-use Rattle.script.specs.declared.call.Call.the-variants.{Open, Close, Sequence, Picture, Read, Explain, Help, Nothing}
+use Rattle.script.specs.declared.call.Call.the-variants.{Open, Close, Sequence, Picture, Read, Explain, Nothing}
 
 -- the call at a place
 pub callAt : ℕ → List ℕ → List ℕ → Left Call
@@ -23,7 +23,7 @@ callAt place s lent =
     (cond (eqb place 4) (left (tableOf s) lent)
     (cond (eqb place 5) (feedOf s lent)
     (cond (ltb place 8) (withPayload (readCall place) (payloadOf s lent))
-    (cond (eqb place 8) (left Help lent)
+    (cond (eqb place 8) (left (helpOf s) lent)
     (left Nothing lent)))))
 
 -- the first name that the word is, by tests of each
@@ -38,7 +38,7 @@ chosen : (s lent : List ℕ) (b0 b1 b2 b3 b4 b5 b6 b7 b8 : Bool)
     (cond b5 (feedOf s lent)
     (cond b6 (withPayload Read (payloadOf s lent))
     (cond b7 (withPayload Explain (payloadOf s lent))
-    (cond b8 (left Help lent)
+    (cond b8 (left (helpOf s) lent)
     (left Nothing lent)))))))))
 unfolding callAt slotCall readCall
 chosen s lent true b1 b2 b3 b4 b5 b6 b7 b8 = refl
@@ -76,9 +76,9 @@ module _ (place : ℕ) (s lent : List ℕ) where
   unfolding callAt
   at-feed h = rw h
 
-  pub at-help : place ≡ 8 → left Help lent ≡ callAt place s lent
+  pub at-help : (r : Call) → r ≡ helpOf s → place ≡ 8 → left r lent ≡ callAt place s lent
   unfolding callAt
-  at-help h = rw h
+  at-help r e h = rw (h, e)
 
   pub at-read : 4 ≤ place → (place ≡ 4 → ⊥) → (place ≡ 5 → ⊥) → place < 8 → withPayload (readCall place) (payloadOf s lent) ≡ callAt place s lent
   unfolding callAt

@@ -1,7 +1,7 @@
 -- The call that a line spells: its first word names it, and the help text says what follows.
 use Prim.Native.Nat.{ℕ}
 use mathlib.Core.Bool.{cond}
-use mathlib.Core.List.{List}
+use mathlib.Core.List.{List, [], _∷_}
 use lib.Dec.{eqb, ltb}
 use lib.ListN.{take}
 use Rattle.lent.specs.Lent.{Left, left}
@@ -43,6 +43,11 @@ fed s lent slot = withPayload (Feed slot) (payloadOf s lent)
 unfoldable pub feedOf : List ℕ → List ℕ → Left Call
 feedOf s lent = valued (numberOf (firstOf s)) (fed (restOf s) lent) (left Nothing lent)
 
+-- nothing follows
+unfoldable pub helpOf : List ℕ → Call
+helpOf [] = Help
+helpOf (c ∷ s) = Nothing
+
 -- what the call of this name comes to, with what follows the name
 unfoldable pub named : List ℕ → List ℕ → List ℕ → Left Call
 named word s lent =
@@ -54,7 +59,7 @@ named word s lent =
     (cond (alike feed-name word) (feedOf s lent)
     (cond (alike read-name word) (withPayload Read (payloadOf s lent))
     (cond (alike explain-name word) (withPayload Explain (payloadOf s lent))
-    (cond (alike help-name word) (left Help lent)
+    (cond (alike help-name word) (left (helpOf s) lent)
     (left Nothing lent)))))))))
 
 -- the call of a line without its comment and the spaces around it

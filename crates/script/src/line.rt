@@ -20,7 +20,7 @@ ghost use mathlib.Core.Path.{_≡_};
 ghost use Rattle.script.specs.Words.{lastOf};
 ghost use Rattle.script.specs.Payload.{payloadOf};
 ghost use Rattle.lent.specs.Lent.{left};
-ghost use Rattle.script.specs.Line.{numbered, slotCall, tableOf, feedOf, readCall, withPayload, spelledOf, callOf};
+ghost use Rattle.script.specs.Line.{numbered, slotCall, tableOf, feedOf, helpOf, readCall, withPayload, spelledOf, callOf};
 
 // More than a payload may have, so that its refusal can be seen.
 pub const BYTES: usize = 10000;
@@ -83,6 +83,17 @@ fn read(at: At, s: &[u8], out: &mut [u8]) -> Call
     }
 }
 
+// Help is asked for alone.
+fn help(at: At, s: &[u8]) -> Call
+    ensures { λ r. ⌜ r ≡ helpOf (now (s .entry)) ⌝ }
+{
+    if s.len() != 0 {
+        wrong(at, s, wrong::TOO_MUCH);
+        return Call::Nothing;
+    }
+    Call::Help
+}
+
 // The call of a line that is not empty.
 fn spelled(line: u64, s: &[u8], out: &mut [u8]) -> Call
     ensures { λ r. ⌜ left r (now (out .exit)) ≡ spelledOf (now (s .entry)) (now (out .entry)) ⌝ }
@@ -96,7 +107,7 @@ fn spelled(line: u64, s: &[u8], out: &mut [u8]) -> Call
         name::TABLE => table(at, after),
         name::FEED => feed(at, after, out),
         name::READ..=name::EXPLAIN => read(at, after, out),
-        name::HELP => Call::Help,
+        name::HELP => help(at, after),
         _ => {
             wrong(at, word, wrong::NO_CALL);
             Call::Nothing

@@ -4,8 +4,6 @@ use mathlib.Core.Path.{sym, _∙_}
 use denote.Ref.{now}
 use Rattle.bits.proofs.Determined.{Determines, DeterminesAll, DeterminesPart}
 use Rattle.lent.proofs.Stores.{same-left}
-use Rattle.words.proofs.hex.digit.Kinds as digit-kinds
-use Rattle.words.proofs.hex.digit.Reads as digit-reads
 use Rattle.words.proofs.hex.bytes.Kinds as bytes-kinds
 use Rattle.words.proofs.hex.bytes.Reads as bytes-reads
 use Rattle.words.proofs.number.number.Kinds as number-kinds
@@ -16,9 +14,6 @@ use Rattle.words.proofs.place.skip.Kinds as skip-kinds
 use Rattle.words.proofs.place.skip.Reads as skip-reads
 use Rattle.words.proofs.place.content.Kinds as content-kinds
 use Rattle.words.proofs.place.content.Reads as content-reads
-
-pub digit-determined : Determines 0 digit-kinds.ps digit-kinds.r digit-reads.Post
-digit-determined κs a x y s t p q = p .0 ∙ sym (q .0)
 
 pub bytes-determined : DeterminesAll 2 bytes-kinds.ps bytes-kinds.r (λ κs s. now (s .1 .0)) bytes-reads.Post
 bytes-determined κs a x y s t p q = same-left (p ∙ sym q)

@@ -5,7 +5,7 @@ ghost use Rattle.lent.specs.Lent.{left};
 ghost use Rattle.words.specs.Hex.{digitOf, pairOf, spelling, into};
 
 // What a character spells: a digit's value, or 16 where it is none.
-pub fn digit(b: u8) -> u8
+fn digit(b: u8) -> u8
     ensures { λ r. ⌜ r ≡ digitOf b ⌝ }
     ensures { λ r. ⌜ r < 17 ⌝ }
 {

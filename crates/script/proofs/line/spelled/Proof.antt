@@ -22,7 +22,7 @@ returns-2 c =
     f .feed .ensures ∙ at-feed _ _ _ (f .before .before .match .keys2) ∙ here (f .before .before .before)
 
 returns-3 : tie.Need-returns-3
-returns-3 c = at-help _ _ _ (c .match .keys3) ∙ here (c .before)
+returns-3 c = at-help _ _ _ _ (c .help .ensures) (c .before .match .keys3) ∙ here (c .before .before)
 
 returns-4 : tie.Need-returns-4
 returns-4 c = at-slot _ _ _ _ (c .slot .ensures) (c .before .if1 .taken) ∙ here (c .before .before .before)
@@ -43,6 +43,7 @@ pub spelled-spec : {M : Type 1} → statement M
 spelled-spec =
     tie.close
     (tie.spec
+    (λ c κs. search needs)
     (λ c κs. search needs)
     (λ c κs. search needs)
     (λ c κs. search needs)
