@@ -14,7 +14,7 @@ use Rattle.answers.specs.declared.Outcome.the-variants.{Taken, SetAside, Refuse
 use Rattle.answers.specs.declared.Message.{Message}
 use Rattle.lent.specs.Lent.{Left, left}
 use Rattle.lent.proofs.Stores.{sets-front}
-use Rattle.handing.specs.Handing.{recordFields, fieldsOf, handed, wroteBy, wrote}
+use Rattle.handing.specs.Handing.{recordFields, fieldsOf, handed, wroteBy, wroteFields}
 
 -- the lent row l, too short for xs or not
 pub few : (n : ℕ) (xs l : List ℕ) → length l < length xs → left 10 l ≡ handed n xs l
@@ -34,15 +34,15 @@ by-message n a m xs l e f h =
 
 -- n is the number of a
 module _ (a : Answer) (n : ℕ) (l : List ℕ) (number : n ≡ numberOf a) where
-  outcome-is : {x : Outcome} → a .outcome ≡ x → wroteBy x a l ≡ wrote a l
-  unfolding wrote
+  outcome-is : {x : Outcome} → a .outcome ≡ x → wroteBy x a l ≡ wroteFields a l
+  unfolding wroteFields
   outcome-is e = sym (ap (λ (x : Outcome). wroteBy x a l) e)
 
-  pub by-taken : {o : Left ℕ} → a .outcome ≡ Taken → o ≡ handed n (fieldsOf a) l → o ≡ wrote a l
+  pub by-taken : {o : Left ℕ} → a .outcome ≡ Taken → o ≡ handed n (fieldsOf a) l → o ≡ wroteFields a l
   by-taken e h = h ∙ ap (λ (k : ℕ). handed k (fieldsOf a) l) number ∙ outcome-is e
 
-  pub by-aside : {o : Left ℕ} → a .outcome ≡ SetAside → o ≡ handed n (fieldsOf a) l → o ≡ wrote a l
+  pub by-aside : {o : Left ℕ} → a .outcome ≡ SetAside → o ≡ handed n (fieldsOf a) l → o ≡ wroteFields a l
   by-aside e h = h ∙ ap (λ (k : ℕ). handed k (fieldsOf a) l) number ∙ outcome-is e
 
-  pub by-refused : {why : Refusal} → a .outcome ≡ Refused why → left n l ≡ wrote a l
+  pub by-refused : {why : Refusal} → a .outcome ≡ Refused why → left n l ≡ wroteFields a l
   by-refused e = ap (λ (k : ℕ). left k l) number ∙ outcome-is e

@@ -51,5 +51,5 @@ wroteBy Taken a row = handed (numberOf a) (fieldsOf a) row
 wroteBy SetAside a row = handed (numberOf a) (fieldsOf a) row
 wroteBy (Refused why) a row = left (numberOf a) row
 
-unfoldable pub wrote : Answer → List ℕ → Left ℕ
-wrote a row = wroteBy (a .outcome) a row
+unfoldable pub wroteFields : Answer → List ℕ → Left ℕ
+wroteFields a row = wroteBy (a .outcome) a row

@@ -3,7 +3,7 @@
 -- Assumes nothing.
 use Prim.Native.Nat.{ℕ, _≤_}
 use mathlib.Core.Path.{_≡_, refl, sym, ap, _∙_, subst}
-use mathlib.Core.Logic.{_≢_, _↔_}
+use mathlib.Core.Logic.{_≢_, _↔_, _⊎_, inl, inr}
 use mathlib.Core.Bool.{Bool, true, false}
 use mathlib.Core.List.{List}
 use native.Mathlib.Omega.{arith}
@@ -21,6 +21,7 @@ use Rattle.format.proofs.Whole.{seen, stopped-which, taken-iff, aside-iff, stop
 use Rattle.answers.specs.Listed.{Record, zeros, form, number, readingOf}
 use Rattle.answers.specs.Answer.{outcomeNumber, numberOf, made, answerFor, refusedAs, unknown}
 use Rattle.answers.specs.declared.kind.Kind.{Kind}
+use Rattle.answers.specs.declared.Answer.{Answer}
 use Rattle.answers.specs.declared.Outcome.{Outcome}
 use Rattle.answers.specs.declared.Outcome.the-variants.{Taken, SetAside, Refused}
 use Rattle.answers.proofs.KindLaws.{made-kind}
@@ -76,18 +77,6 @@ case n size bytes = go (call n size bytes)
 
 -- ---- the number says the answer
 
-some : (r : Refusal) → (1 ≤ refusals.numberOf r) × (refusals.numberOf r ≤ 10)
-some why.Kind = (omega arith, omega arith)
-some why.Size = (omega arith, omega arith)
-some why.Short = (omega arith, omega arith)
-some why.Zeros = (omega arith, omega arith)
-some why.Rule = (omega arith, omega arith)
-some why.Regions = (omega arith, omega arith)
-some why.Tail = (omega arith, omega arith)
-some why.Slot = (omega arith, omega arith)
-some why.Table = (omega arith, omega arith)
-some why.Rows = (omega arith, omega arith)
-
 -- after 1 and 2
 abbrev Later : Outcome → Type 0
 Later o = (outcomeNumber o ≢ 1) × (outcomeNumber o ≢ 2)
@@ -98,27 +87,58 @@ element-later refusals.zeros = (λ h. omega arith, λ h. omega arith)
 element-later refusals.rule = (λ h. omega arith, λ h. omega arith)
 element-later refusals.regions = (λ h. omega arith, λ h. omega arith)
 
-pub number-0 : (n size : ℕ) (bytes : List ℕ) → (numberOf (answerTo n size bytes) ≡ 0) ↔ ((k : Kind) × (a : Record k) × (e : ℕ) × (answerTo n size bytes ≡ made k Taken a e))
-number-0 n size bytes = (λ h. go h (case n size bytes), λ d. ap numberOf (d .3))
+-- no two outcomes have one number
+refused-some : (r : Refusal) → (1 ≤ refusals.numberOf r) × (refusals.numberOf r ≤ 10)
+refused-some why.Kind = (omega arith, omega arith)
+refused-some why.Size = (omega arith, omega arith)
+refused-some why.Short = (omega arith, omega arith)
+refused-some why.Zeros = (omega arith, omega arith)
+refused-some why.Rule = (omega arith, omega arith)
+refused-some why.Regions = (omega arith, omega arith)
+refused-some why.Tail = (omega arith, omega arith)
+refused-some why.Slot = (omega arith, omega arith)
+refused-some why.Table = (omega arith, omega arith)
+refused-some why.Rows = (omega arith, omega arith)
+
+outcome-told : (o p : Outcome) → outcomeNumber o ≡ outcomeNumber p → o ≡ p
+outcome-told Taken Taken h = refl
+outcome-told Taken SetAside h = absurd (omega arith)
+outcome-told Taken (Refused t) h = absurd (omega (arith, refused-some t .0))
+outcome-told SetAside Taken h = absurd (omega arith)
+outcome-told SetAside SetAside h = refl
+outcome-told SetAside (Refused t) h = absurd (omega (arith, refused-some t .1))
+outcome-told (Refused r) Taken h = absurd (omega (arith, refused-some r .0))
+outcome-told (Refused r) SetAside h = absurd (omega (arith, refused-some r .1))
+outcome-told (Refused r) (Refused t) h = ap Refused (refusal-told r t h)
+
+-- the whole answer x that has an outcome: a record of some kind, or zeros
+abbrev Says : Answer → Outcome → Type 0
+Says x Taken = (k : Kind) × (a : Record k) × (e : ℕ) × (x ≡ made k Taken a e)
+Says x SetAside = (k : Kind) × (a : Record k) × (e : ℕ) × (x ≡ made k SetAside a e)
+Says x (Refused r) = ((r ≡ why.Kind) × (x ≡ unknown)) ⊎ ((k : Kind) × (x ≡ refusedAs k r))
+
+says : (n size : ℕ) (bytes : List ℕ) → Says (answerTo n size bytes) (answerTo n size bytes .outcome)
+says n size bytes = go (case n size bytes)
   where
-    go : numberOf (answerTo n size bytes) ≡ 0 → Case n size bytes → (k : Kind) × (a : Record k) × (e : ℕ) × (answerTo n size bytes ≡ made k Taken a e)
-    go h (cases.unlisted f m) = absurd (omega (arith, ap numberOf m))
-    go h (cases.oversized k f o m) = absurd (omega (arith, ap numberOf m))
-    go h (cases.stops k w r d m) = absurd (omega (arith, ap numberOf m, some r .0))
-    go h (cases.tail k w d m) = absurd (omega (arith, ap numberOf m))
-    go h (cases.aside k w a e d s m) = absurd (omega (arith, ap numberOf m))
-    go h (cases.taken k w a e d s m) = (k, a, e, m)
+    by : {x : Answer} → answerTo n size bytes ≡ x → Says (answerTo n size bytes) (x .outcome) → Says (answerTo n size bytes) (answerTo n size bytes .outcome)
+    by m = subst (λ (y : Answer). Says (answerTo n size bytes) (y .outcome)) (sym m)
+
+    go : Case n size bytes → Says (answerTo n size bytes) (answerTo n size bytes .outcome)
+    go (cases.unlisted f m) = by m (inl (refl, m))
+    go (cases.oversized k f o m) = by m (inr (k, m))
+    go (cases.stops k w r d m) = by m (inr (k, m))
+    go (cases.tail k w d m) = by m (inr (k, m))
+    go (cases.aside k w a e d s m) = by m (k, a, e, m)
+    go (cases.taken k w a e d s m) = by m (k, a, e, m)
+
+said-by : (n size : ℕ) (bytes : List ℕ) (o : Outcome) → numberOf (answerTo n size bytes) ≡ outcomeNumber o → Says (answerTo n size bytes) o
+said-by n size bytes o h = subst (Says (answerTo n size bytes)) (outcome-told (answerTo n size bytes .outcome) o h) (says n size bytes)
+
+pub number-0 : (n size : ℕ) (bytes : List ℕ) → (numberOf (answerTo n size bytes) ≡ 0) ↔ ((k : Kind) × (a : Record k) × (e : ℕ) × (answerTo n size bytes ≡ made k Taken a e))
+number-0 n size bytes = (said-by n size bytes Taken, λ d. ap numberOf (d .3))
 
 pub number-20 : (n size : ℕ) (bytes : List ℕ) → (numberOf (answerTo n size bytes) ≡ 20) ↔ ((k : Kind) × (a : Record k) × (e : ℕ) × (answerTo n size bytes ≡ made k SetAside a e))
-number-20 n size bytes = (λ h. go h (case n size bytes), λ d. ap numberOf (d .3))
-  where
-    go : numberOf (answerTo n size bytes) ≡ 20 → Case n size bytes → (k : Kind) × (a : Record k) × (e : ℕ) × (answerTo n size bytes ≡ made k SetAside a e)
-    go h (cases.unlisted f m) = absurd (omega (arith, ap numberOf m))
-    go h (cases.oversized k f o m) = absurd (omega (arith, ap numberOf m))
-    go h (cases.stops k w r d m) = absurd (omega (arith, ap numberOf m, some r .1))
-    go h (cases.tail k w d m) = absurd (omega (arith, ap numberOf m))
-    go h (cases.aside k w a e d s m) = (k, a, e, m)
-    go h (cases.taken k w a e d s m) = absurd (omega (arith, ap numberOf m))
+number-20 n size bytes = (said-by n size bytes SetAside, λ d. ap numberOf (d .3))
 
 pub number-1 : (n size : ℕ) (bytes : List ℕ) → (numberOf (answerTo n size bytes) ≡ 1) ↔ (answerTo n size bytes ≡ unknown)
 number-1 n size bytes = (λ h. go h (case n size bytes), λ m. ap numberOf m)
@@ -134,19 +154,11 @@ number-1 n size bytes = (λ h. go h (case n size bytes), λ m. ap numberOf m)
 -- 2 to 7
 pub number-refused : (n size : ℕ) (bytes : List ℕ) (r : Refusal) → r ≢ why.Kind
     → (numberOf (answerTo n size bytes) ≡ refusals.numberOf r) ↔ ((k : Kind) × (answerTo n size bytes ≡ refusedAs k r))
-number-refused n size bytes r l = (λ h. go h (case n size bytes), λ d. ap numberOf (d .1))
+number-refused n size bytes r l = (λ h. go (said-by n size bytes (Refused r) h), λ d. ap numberOf (d .1))
   where
-    same : {t : Refusal} (k : Kind) → answerTo n size bytes ≡ refusedAs k t → numberOf (answerTo n size bytes) ≡ refusals.numberOf r
-        → (j : Kind) × (answerTo n size bytes ≡ refusedAs j r)
-    same {t} k m h = (k, m ∙ ap (refusedAs k) (refusal-told t r (sym (ap numberOf m) ∙ h)))
-
-    go : numberOf (answerTo n size bytes) ≡ refusals.numberOf r → Case n size bytes → (k : Kind) × (answerTo n size bytes ≡ refusedAs k r)
-    go h (cases.unlisted f m) = absurd (l (sym (refusal-told why.Kind r (sym (ap numberOf m) ∙ h))))
-    go h (cases.oversized k f o m) = same k m h
-    go h (cases.stops k w t d m) = same k m h
-    go h (cases.tail k w d m) = same k m h
-    go h (cases.aside k w a e d s m) = absurd (omega (arith, ap numberOf m, some r .1))
-    go h (cases.taken k w a e d s m) = absurd (omega (arith, ap numberOf m, some r .0))
+    go : Says (answerTo n size bytes) (Refused r) → (k : Kind) × (answerTo n size bytes ≡ refusedAs k r)
+    go (inl u) = absurd (l (u .0))
+    go (inr d) = d
 
 -- ---- each answer exactly when
 

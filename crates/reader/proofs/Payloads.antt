@@ -20,9 +20,9 @@ use Rattle.depth.specs.Depth as depths
 use Rattle.answers.specs.Listed.{named, readingOf}
 use Rattle.entry.specs.Entry.{entryTo}
 use Rattle.reader.specs.Reader.{answerTo}
-use Rattle.reader.specs.Payloads.{Held, All, end, _and_, rows}
+use Rattle.reader.specs.Payloads.{Answered, All, end, _and_, rows}
 
-pub payloads-hold : All Held rows
+pub payloads-hold : All Answered rows
 unfolding rows answerTo entryTo readingOf named whole run elementFront uFront ueAfter from part number bitAt lastOne tailOf signedOf degreeBits depthBits
     rotation angleIn framePacking arrangement sixFlags gridPositions setAside reservedId reservedType reservedInterpretation
     equirectangular guardBand alpha information flags depths.depth depths.flags depths.refView depths.values elementIf element model

@@ -1,3 +1,4 @@
+-- What the contracts of this crate cite.
 pub mod Reader
 pub mod Cases
 pub mod Payloads
