@@ -8,8 +8,8 @@
  * length after them says, that they do not overlap, and that no other thread changes them during the call. A length of 0 may come
  * with a null pointer.
  *
- * This file is kept by hand: the declarations are those of crates/host/src/lib.rt, and the layouts those of
- * crates/host/specs/Fields.antt, which the functions are proved to follow.
+ * This file is kept by hand: the declarations are those of crates/host/src, lib.rt for the payload calls and slot.rt for the slot calls.
+ * The rows are those of crates/fields/specs/Fields.antt, which the functions are proved to follow.
  */
 #ifndef BRUSKELDE_H
 #define BRUSKELDE_H
@@ -94,14 +94,26 @@ enum {
  *      7  frame 0 flipped                 15  frame 1 grid position y
  *      8  field views                     16  persistence
  *                                         17  upsampled aspect ratio
- *   Grid positions are in sixteenths of a sample from the upper left corner.
+ *   What type and content interpretation say stands at struct bruskelde_layout. Grid positions are in sixteenths of a sample from the
+ *   upper left corner; x and y both 0 are the default place of the type, both 15 an unknown one.
  *
  * 47, orientation
  *      1  cancel      2  persistence      3  transform type
+ *   Transform types, here and of regions. 47: what to do to the picture before it is shown; 155: to the packed region, to map it to the
+ *   projected one. Degrees are anticlockwise, and mirroring is horizontal:
+ *      0  none                             4  rotate by 90, then mirror
+ *      1  mirror                           5  rotate by 90
+ *      2  rotate by 180                    6  rotate by 270, then mirror
+ *      3  rotate by 180, then mirror       7  rotate by 270
  *
  * 150, equirectangular
  *      1  cancel      2  persistence      3  guard flag
- *      4  guard type, 0 to 3              5  left width      6  right width
+ *      4  guard type, 0 to 3              5  left width      6  right width      (in luma samples)
+ *   Guard types, here and of regions: what a guard band contains.
+ *      0  unknown or unspecified; a coded 4 to 7 is handed out as 0
+ *      1  enough to interpolate between samples
+ *      2  picture content whose quality changes gradually to that of the neighbour on the sphere
+ *      3  picture content of like quality
  *
  * 154, sphere rotation
  *      1  cancel      2  persistence
@@ -118,28 +130,45 @@ enum {
  *     +2  projected width                +12  guard band top height
  *     +3  projected height               +13  guard band bottom height
  *     +4  projected top                  +14  guard bands not used for prediction
- *     +5  projected left                 +15 to +18  guard band types 0 to 3
- *     +6  packed width
- *     +7  packed height
- *     +8  packed top
+ *     +5  projected left                 +15  guard type of the left edge, 0 to 3
+ *     +6  packed width                   +16  of the right edge
+ *     +7  packed height                  +17  of the top edge
+ *     +8  packed top                     +18  of the bottom edge
  *     +9  packed left
+ *   Projected sizes and places are in relative projected picture sample units; packed ones, and guard bands, in relative packed picture
+ *   sample units. With the matching flag the regions hold for each of the two frames of kind 45, else for the whole picture.
  *
  * 165, alpha
  *      1  cancel                           5  opaque value
  *      2  use                              6  increment flag
  *      3  bit depth minus 8                7  clip flag
  *      4  transparent value                8  clip type flag
+ *   Uses:
+ *      0  blending multiplies the picture by alpha
+ *      1  the picture is multiplied already
+ *      2  unspecified
+ *      3 to 7  reserved: H.274 has such a message ignored; here it is taken
+ *   Increment: samples above the lower of the two values count as one more. Clip: to the nearer of the two values (clip type 0) or to
+ *   the range between them (1), before the increment.
  *
  * 177, depth
  *      1  z near flag                      4  d max flag
  *      2  z far flag                       5  representation type
- *      3  d min flag                       6  reference view
+ *      3  d min flag                       6  reference view: the one for which disparities are derived
+ *   Representation types:
+ *      0  samples are the inverse of the distance: 0 stands for z far, the greatest for z near
+ *      1  samples are disparity: 0 stands for d min, the greatest for d max
+ *      2  samples are the distance: 0 stands for z far, the greatest for z near
+ *      3  samples are disparity, mapped by the list
+ *      4 to 15  reserved: H.274 has what follows them ignored; here it is read
  *   then z near from 7, z far from 13, d min from 19 and d max from 25 on, each:
  *     +0  sign        +1  exponent        +2  mantissa length less one        +3  mantissa
  *     +4  0 where it is absent, 1 where it is unspecified, 2 where it is a number
  *     +5  the 64 bits of the number as a double; 0 where there is none
- *     31  how many numbers the list has, 0 to 63
- *     32 to 94  the list
+ *   z near and z far are the nearest and the farthest distance, in a unit that H.274 leaves open; d min and d max the least and the
+ *   greatest disparity, in luma sample widths.
+ *     31  how many numbers the list has, 0 without a list, else up to 63: one less than the mapping's linear segments
+ *     32 to 94  the list: how far each node lies off the straight line
  *
  * 4, registered user data
  *      1  country code      2  the byte after the country code 255
@@ -176,10 +205,10 @@ struct bruskelde_part bruskelde_part(uint64_t kind, uint64_t size, const uint8_t
 
 /* Kind 45. Fields that it does not carry are 0, here and below. */
 struct bruskelde_flags {
-    uint8_t spatial_flipping;
-    uint8_t frame0_flipped;
-    uint8_t field_views;
-    uint8_t current_is_frame0;
+    uint8_t spatial_flipping; /* one frame is flipped: under type 3 sideways, under 4 upside down, under 5 to be ignored */
+    uint8_t frame0_flipped; /* which one: 0 frame 1, 1 frame 0 */
+    uint8_t field_views; /* to be ignored */
+    uint8_t current_is_frame0; /* under type 5: this picture is frame 0 */
     uint8_t frame0_self_contained;
     uint8_t frame1_self_contained;
 };
@@ -211,7 +240,7 @@ struct bruskelde_frame_packing {
 struct bruskelde_orientation {
     uint8_t cancel;
     uint8_t persistence;
-    uint8_t transform;
+    uint8_t transform; /* 0 to 7, as for the rows above */
 };
 
 /* Kind 150. */
@@ -219,8 +248,8 @@ struct bruskelde_equirectangular {
     uint8_t cancel;
     uint8_t persistence;
     uint8_t guarded;
-    uint8_t guard_type; /* 0 to 3 */
-    uint8_t left_width;
+    uint8_t guard_type; /* 0 to 3, as for the rows above */
+    uint8_t left_width; /* in luma samples */
     uint8_t right_width;
 };
 
@@ -240,7 +269,7 @@ struct bruskelde_rotation {
     struct bruskelde_degrees degrees;
 };
 
-/* Kind 155. */
+/* Kind 155. Units, transforms and guard types as for the rows above. */
 struct bruskelde_projected_area {
     uint32_t width;
     uint32_t height;
@@ -256,10 +285,10 @@ struct bruskelde_packed_area {
 };
 
 struct bruskelde_guard_types {
-    uint8_t type0;
-    uint8_t type1;
-    uint8_t type2;
-    uint8_t type3;
+    uint8_t type0; /* of the left edge */
+    uint8_t type1; /* of the right edge */
+    uint8_t type2; /* of the top edge */
+    uint8_t type3; /* of the bottom edge */
 };
 
 struct bruskelde_guard_bands {
@@ -284,7 +313,7 @@ enum { BRUSKELDE_MOST_REGIONS = 16, BRUSKELDE_SLOTS = 8, BRUSKELDE_TABLE_ROW = 9
 struct bruskelde_packing {
     uint8_t cancel;
     uint8_t persistence;
-    uint8_t matching;
+    uint8_t matching; /* 1: the regions hold for each of the two frames of kind 45 */
     uint8_t count; /* of the regions that follow; those past it are zeros */
     uint32_t projected_width;
     uint32_t projected_height;

@@ -50,7 +50,7 @@ impl Comparison {
     fn add(&mut self, request: Request, library: Answer, reader: Answer) {
         match library {
             Some(answer) if reader.as_ref() == Some(&answer) => {
-                self.tally.count(&request, &answer);
+                self.tally.count(&request, &self.slots, &answer);
                 self.alike += 1;
                 if let Some(slots) = request.slots_after(&answer) {
                     self.slots = slots.to_vec();

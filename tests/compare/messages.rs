@@ -47,16 +47,23 @@ impl Composer<'_> {
         let country_code = self.random.pick(&[0xB5, 0, 1, 254, 255, 255]);
         self.bits.put(country_code, 8);
         if country_code == 255 {
-            self.any(8);
+            self.edge(8);
         }
         self.rest();
     }
 
     fn unregistered(&mut self) {
-        for _ in 0..16 {
-            self.any(8);
-        }
+        self.identifier();
         self.rest();
+    }
+
+    /// All zeros, all ones, or bytes of which many are at an edge.
+    fn identifier(&mut self) {
+        let all = self.random.pick(&[Some(0), Some(255), None, None, None]);
+        for _ in 0..16 {
+            let edge = self.random.edge(8);
+            self.bits.put(all.unwrap_or(edge), 8);
+        }
     }
 
     fn rest(&mut self) {

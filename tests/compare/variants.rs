@@ -135,6 +135,11 @@ const VARIANTS: &[Variant] = variants! {
             => "if mantissa == 0 {\n        return if sign { -0.0 } else { 0.0 };";
     "the byte after country code 254 is taken for its extension":
         "user_data.rs" "255 =>" => "254.. =>";
+    "an extension byte of 255 is taken for 254":
+        "user_data.rs" "255 => bits.u8(8)?" => "255 => bits.u8(8)?.min(254)";
+    "an identifier of all ones is refused":
+        "user_data.rs" "identifier: bits.u128()?"
+            => "identifier: bits.u128().and_then(|all| (all != [255; 16]).then_some(all).ok_or(Refusal::Short))?";
 
     "opening an open slot keeps what it held":
         "slots.rs" "renew(self.at(slot), 1)"

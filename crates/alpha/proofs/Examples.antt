@@ -1,4 +1,4 @@
--- The payload 10 00 7F 90 of 01, a cancel, values of 16 bits, and a payload that breaks off before the clip type flag.
+-- Kind 165: a cancel, values of 16 bits, and a payload that breaks off before the clip type flag. The payload of 01 is the reader's.
 -- Assumes nothing.
 use Prim.Native.Nat.{ℕ}
 use mathlib.Core.Path.{refl}
@@ -26,12 +26,11 @@ fields use-idc depth transparent opaque incr clip clip-type =
       «clip_type» = clip-type;
     }
 
--- Values of 9 bits and no clip type flag, with 5 bits left for the tail. A cancel is one bit. The widest values, every flag, and a reserved
+-- A cancel is one bit. The widest values, every flag, and a reserved
 -- use, which is handed out as coded. From bit 5 on, a clip flag of 1 is the payload's last bit.
 payloads :
     Worked alpha
-    (row (0x10 ∷ 0x00 ∷ 0x7f ∷ 0x90 ∷ []) (taken (fields 1 0 0 255 0 0 0) 27)
-    ∷ row (0xff ∷ []) (taken (bare 1) 1)
+    (row (0xff ∷ []) (taken (bare 1) 1)
     ∷ row (0x5f ∷ 0xff ∷ 0xff ∷ 0x00 ∷ 0x03 ∷ 0xc0 ∷ []) (taken (fields 5 7 65535 32769 1 1 1) 42)
     ∷ row-at 5 (0x00 ∷ 0x00 ∷ 0x00 ∷ 0x01 ∷ []) (refused Short)
     ∷ [])

@@ -52,7 +52,7 @@ impl AlphaRead {
     {
         match self {
             AlphaRead::Refused(why) => why,
-            AlphaRead::Taken(_, _) => Refusal::Short,
+            AlphaRead::Taken(_, _) => Refusal::unasked(),
         }
     }
 }
@@ -75,7 +75,7 @@ impl FlagsRead {
     {
         match self {
             FlagsRead::Refused(why) => why,
-            FlagsRead::Taken(_, _) => Refusal::Short,
+            FlagsRead::Taken(_, _) => Refusal::unasked(),
         }
     }
 }

@@ -1,2 +1,4 @@
+-- The theorems of this crate, beside the proofs of its functions.
+pub mod KindLaws
 pub mod AnswerLaws
 pub mod Determined

@@ -83,13 +83,14 @@ answerFor k (reading.taken a e) = made k Taken a e
 answerFor k (reading.setAside a e) = made k SetAside a e
 answerFor k (reading.refused r) = made k (Refused r) (zeros k) 0
 
--- the same by parts, for kinds whose records hold no array
+-- the same of a refusal by parts: no record stands beside its message
 abbrev pub zeroMessage : Kind → Message
 zeroMessage k = messageOf k (zeros k)
 
 abbrev pub refusedAs : Kind → Refusal → Answer
 refusedAs k r = plain (Refused r) (zeroMessage k) 0
 
+-- and of a message with no record beside it, by how its payload ends
 abbrev pub finished : Kind → Outcome → Message → Ending → Answer
 finished k o m (ending.Extension e) = plain o m e
 finished k o m (ending.Refused r) = refusedAs k r

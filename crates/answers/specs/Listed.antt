@@ -1,7 +1,7 @@
 -- The nine kinds of 01: number, record, and how a payload of the kind is read as a whole.
 use Prim.Native.Nat.{ℕ}
 use mathlib.Core.Bool.{Bool, true, false, cond}
-use mathlib.Core.List.{List}
+use mathlib.Core.List.{List, [], _∷_}
 use lib.Dec.{eqb}
 use Rattle.bits.specs.Bits.{bitsOf}
 use Rattle.format.specs.Whole.{Form, Reading, whole}
@@ -82,15 +82,24 @@ form kinds.Unregistered = record { table = unregistereds.unregistered; tailed = 
 unfoldable pub readingOf : (k : Kind) → List ℕ → Reading (Record k)
 readingOf k s = whole (form k) (bitsOf s)
 
+abbrev pub nine : List Kind
+nine =
+    kinds.FramePacking
+    ∷ kinds.Orientation
+    ∷ kinds.Equirectangular
+    ∷ kinds.Rotation
+    ∷ kinds.RegionWise
+    ∷ kinds.Alpha
+    ∷ kinds.Depth
+    ∷ kinds.Registered
+    ∷ kinds.Unregistered
+    ∷ []
+
+-- the first of these kinds that has the number n
+abbrev pub namedIn : List Kind → ℕ → Named
+namedIn [] n = Unlisted
+namedIn (k ∷ ks) n = cond (eqb n (number k)) (Listed k) (namedIn ks n)
+
 -- the kind that a number names, if it names one
 unfoldable pub named : ℕ → Named
-named n =
-    cond (eqb n 45) (Listed kinds.FramePacking)
-    (cond (eqb n 47) (Listed kinds.Orientation)
-    (cond (eqb n 150) (Listed kinds.Equirectangular)
-    (cond (eqb n 154) (Listed kinds.Rotation)
-    (cond (eqb n 155) (Listed kinds.RegionWise)
-    (cond (eqb n 165) (Listed kinds.Alpha)
-    (cond (eqb n 177) (Listed kinds.Depth)
-    (cond (eqb n 4) (Listed kinds.Registered)
-    (cond (eqb n 5) (Listed kinds.Unregistered) Unlisted))))))))
+named n = namedIn nine n

@@ -58,6 +58,8 @@ use Rattle.bits.proofs.refusal.Refusal.table.Kinds as table-made-kinds
 use Rattle.bits.proofs.refusal.Refusal.table.Reads as table-made-reads
 use Rattle.bits.proofs.refusal.Refusal.rows.Kinds as rows-made-kinds
 use Rattle.bits.proofs.refusal.Refusal.rows.Reads as rows-made-reads
+use Rattle.bits.proofs.refusal.Refusal.unasked.Kinds as unasked-made-kinds
+use Rattle.bits.proofs.refusal.Refusal.unasked.Reads as unasked-made-reads
 use Rattle.bits.proofs.read.Onward.refusal.Kinds as onward-refusal-kinds
 use Rattle.bits.proofs.read.Onward.refusal.Reads as onward-refusal-reads
 
@@ -76,6 +78,14 @@ DeterminesAll n ps r seen Post =
     → Post κs a x s
     → Post κs a y t
     → (x ≡ y) × (seen κs s ≡ seen κs t)
+
+-- and of one that hands back a part of what it is lent: the arguments a fix what `held` says that the part holds, not where it lies
+abbrev pub DeterminesPart : (n : ℕ) (ps : List (PK n)) (r : RK n) {X : Type 0} → ((κs : Lfts n) → resT r κs .Denot → X) → kinds.Out n ps r → Type 0
+DeterminesPart n ps r held Post =
+    (κs : Lfts n) (a : Dens κs ps) (x y : resT r κs .Denot) (s t : AtExit (endedOf n ps r) κs)
+    → Post κs a x s
+    → Post κs a y t
+    → held κs x ≡ held κs y
 
 -- ---- a meaning tells the cases of an answer apart where the answer can be had back from it
 
@@ -188,6 +198,9 @@ table-made-determined κs a x y s t p q = p ∙ sym q
 
 pub rows-made-determined : Determines 0 rows-made-kinds.ps rows-made-kinds.r rows-made-reads.Post
 rows-made-determined κs a x y s t p q = p ∙ sym q
+
+pub unasked-made-determined : Determines 0 unasked-made-kinds.ps unasked-made-kinds.r unasked-made-reads.Post
+unasked-made-determined κs a x y s t p q = p ∙ sym q
 
 pub onward-refusal-determined : Determines 0 onward-refusal-kinds.ps onward-refusal-kinds.r onward-refusal-reads.Post
 onward-refusal-determined κs a x y s t p q = p ∙ sym q

@@ -1,5 +1,6 @@
 -- What the code's answers mean, case by case.
 use Prim.Native.Nat.{ℕ}
+use Rattle.bits.specs.Refusals.{unasked}
 use Rattle.bits.specs.Out.{Out, taken, refused}
 use Rattle.bits.specs.declared.read.Read.{Read}
 use Rattle.bits.specs.declared.read.Read.the-variants.{Value, Refused}
@@ -10,7 +11,6 @@ use Rattle.bits.specs.declared.read.WordRead.the-variants as word
 use Rattle.bits.specs.declared.read.Onward.{Onward}
 use Rattle.bits.specs.declared.read.Onward.the-variants as onward
 use Rattle.bits.specs.declared.refusal.Refusal.{Refusal}
-use Rattle.bits.specs.declared.refusal.Refusal.the-variants.{Short}
 
 abbrev pub answer : Read → Out ℕ
 answer (Value v c) = taken v (c .at)
@@ -26,5 +26,5 @@ wordAnswer (word.Refused r) = refused r
 
 -- why a reading does not go on; asked only where it does not
 abbrev pub onwardRefusal : Onward → Refusal
-onwardRefusal (onward.Next c) = Short
+onwardRefusal (onward.Next c) = unasked
 onwardRefusal (onward.Refused r) = r

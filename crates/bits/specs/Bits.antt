@@ -5,9 +5,12 @@ use mathlib.Core.List.{List, [], _∷_}
 use lib.ListN.{length, getD}
 use lib.Dec.{eqb}
 
--- what a payload is: at most 8,192 bytes
+-- how many bytes a payload may have
+abbrev pub mostBytes : ℕ
+mostBytes = 8192
+
 abbrev pub Payload : List ℕ → Type 0
-Payload s = length s ≤ 8192
+Payload s = length s ≤ mostBytes
 
 -- N, how many bits it has
 abbrev pub bitsIn : List ℕ → ℕ

@@ -1,3 +1,4 @@
+-- What the contracts of this crate cite.
 pub mod Bits
 pub mod Refusals
 pub mod Out

@@ -1,7 +1,7 @@
 -- What a reading comes to: what was read, with the number of the bit after it; or a refusal.
 use Prim.Native.Nat.{ℕ, _+_}
 use Rattle.bits.specs.declared.refusal.Refusal.{Refusal}
-use Rattle.bits.specs.declared.refusal.Refusal.the-variants.{Short}
+use Rattle.bits.specs.Refusals.{unasked}
 
 pub data Out (A : Type 0) : Type 0 where
   taken : A → ℕ → Out A
@@ -19,5 +19,5 @@ placed p (refused r) = refused r
 
 -- why there is no value; asked only where there is none
 abbrev pub refusalIn : {A : Type 0} → Out A → Refusal
-refusalIn (taken a q) = Short
+refusalIn (taken a q) = unasked
 refusalIn (refused r) = r

@@ -32,6 +32,10 @@ byTable = Table
 abbrev pub byRows : Refusal
 byRows = Rows
 
+-- what an answer that has a value gives as its refusal, which nobody asks for
+abbrev pub unasked : Refusal
+unasked = Short
+
 -- how a rule can be broken: 5, or 6
 pub data Breach : Type 0 where
   broken : Breach
@@ -45,3 +49,10 @@ refusalOf tooMany = Regions
 pub data Verdict : Type 0 where
   fine : Verdict
   against : Breach → Verdict
+
+-- the refusals of elements: 3, 4, 5 and 6
+pub data OfElement : Refusal → Type 0 where
+  short : OfElement Short
+  zeros : OfElement Zeros
+  rule : OfElement Rule
+  regions : OfElement Regions

@@ -36,7 +36,7 @@ impl Read {
     {
         match self {
             Read::Refused(why) => why,
-            Read::Value(_, _) => Refusal::Short,
+            Read::Value(_, _) => Refusal::unasked(),
         }
     }
 }
@@ -47,7 +47,7 @@ impl ByteRead {
     {
         match self {
             ByteRead::Refused(why) => why,
-            ByteRead::Value(_, _) => Refusal::Short,
+            ByteRead::Value(_, _) => Refusal::unasked(),
         }
     }
 }
@@ -58,7 +58,7 @@ impl WordRead {
     {
         match self {
             WordRead::Refused(why) => why,
-            WordRead::Value(_, _) => Refusal::Short,
+            WordRead::Value(_, _) => Refusal::unasked(),
         }
     }
 }
@@ -69,7 +69,7 @@ impl Onward {
     {
         match self {
             Onward::Refused(why) => why,
-            Onward::Next(_) => Refusal::Short,
+            Onward::Next(_) => Refusal::unasked(),
         }
     }
 }

@@ -1,7 +1,7 @@
 // Why a payload, or a call, is refused. Refusals are made in this crate and handed up whole.
 use crate::cursor::Cursor;
 ghost use mathlib.Core.Path.{_≡_};
-ghost use Rattle.bits.specs.Refusals.{numberOf, byKind, bySize, bySlot, byTable, byRows, broken, tooMany, refusalOf};
+ghost use Rattle.bits.specs.Refusals.{numberOf, byKind, bySize, bySlot, byTable, byRows, unasked, broken, tooMany, refusalOf};
 
 pub enum Refusal {
     // The kind is none that is read.
@@ -73,6 +73,13 @@ impl Refusal {
         ensures { λ r. ⌜ r ≡ byRows ⌝ }
     {
         Refusal::Rows
+    }
+
+    // What an answer that has a value gives as its refusal. Nobody asks for it.
+    pub fn unasked() -> Refusal
+        ensures { λ r. ⌜ r ≡ unasked ⌝ }
+    {
+        Refusal::Short
     }
 
     // The refusal of an element that breaks a rule; the element starts at the cursor.

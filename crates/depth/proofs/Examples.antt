@@ -1,4 +1,4 @@
--- The payload 88 F8 30 of 01, every field of it, and the edges of kind 177.
+-- Kind 177 at its edges, with every field. The payload of 01 is the reader's.
 -- Assumes nothing.
 use Prim.Native.Nat.{ℕ}
 use mathlib.Core.Path.{refl}
@@ -35,12 +35,11 @@ none = these absent absent absent absent
 abbrev value : ℕ → ℕ → ℕ → ℕ → DepthNumber → DepthValue
 value s e l n x = record { sign = s; exponent = e; «length_minus1» = l; mantissa = n; number = x }
 
--- z near 1.5, with 5 bits left for the tail. Nothing but flags and a type: the record of zeros. Disparities with a reference view, 2 and a
+-- Nothing but flags and a type: the record of zeros. Disparities with a reference view, 2 and a
 -- zero whose sign is 1; type 2 has no list. Exponent 127 is unspecified, and its mantissa of 3 bits is read.
 numbers-read :
     Worked depth
-    (row (0x88 ∷ 0xf8 ∷ 0x30 ∷ []) (taken (depthOf (shown 1 0 0 0) 0 0 (these (value 0 31 0 1 (Number (ofBits binary64 0x3FF8_0000_0000_0000))) absent absent absent) noModel) 19)
-    ∷ row (0x08 ∷ []) (taken zeros 5)
+    (row (0x08 ∷ []) (taken zeros 5)
     ∷ row (0x36 ∷ 0x20 ∷ 0x80 ∷ 0x08 ∷ 0x00 ∷ 0x00 ∷ [])
     (taken
     (depthOf (shown 0 0 1 1) 2 7

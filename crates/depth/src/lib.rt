@@ -125,7 +125,7 @@ impl FlagsRead {
     {
         match self {
             FlagsRead::Refused(why) => why,
-            FlagsRead::Taken(_, _) => Refusal::Short,
+            FlagsRead::Taken(_, _) => Refusal::unasked(),
         }
     }
 }
@@ -193,7 +193,7 @@ impl ValuesRead {
     {
         match self {
             ValuesRead::Refused(why) => why,
-            ValuesRead::Taken(_, _) => Refusal::Short,
+            ValuesRead::Taken(_, _) => Refusal::unasked(),
         }
     }
 }

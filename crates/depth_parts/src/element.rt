@@ -48,7 +48,7 @@ impl ElementRead {
     {
         match self {
             ElementRead::Refused(why) => why,
-            ElementRead::Taken(_, _) => Refusal::Short,
+            ElementRead::Taken(_, _) => Refusal::unasked(),
         }
     }
 }

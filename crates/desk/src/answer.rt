@@ -11,9 +11,13 @@ use show::number::called;
 use show::style::Style;
 use slots::Called;
 use slots::Slots;
+ghost use mathlib.Core.Path.{_≡_};
+ghost use Rattle.desk.specs.Slots.{slotsAfter};
 
 // A call that answers a number only.
-fn done(r: Called) -> Slots {
+fn done(r: Called) -> Slots
+    ensures { λ s. ⌜ s ≡ r .slots ⌝ }
+{
     let answer = r.answer;
     called(answer.number());
     text(b"\n");
@@ -31,7 +35,9 @@ fn asked(slots: Slots, call: Call, bytes: &[u8; BYTES]) {
     }
 }
 
-pub fn answer(slots: Slots, call: Call, bytes: &[u8; BYTES]) -> Slots {
+pub fn answer(slots: Slots, call: Call, bytes: &[u8; BYTES]) -> Slots
+    ensures { λ r. ⌜ r ≡ slotsAfter call slots (now (bytes .entry)) ⌝ }
+{
     match call {
         Call::Open(n) => done(slots.open(n)),
         Call::Close(n) => done(slots.close(n)),

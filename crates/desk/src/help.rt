@@ -26,7 +26,7 @@ pub fn help() {
         \x20 ./bruskelde examples/camera-switch.txt    a slot passes from one camera to another\n\n\
         Calls of a script, one a line; # starts a comment:\n\
         \x20 open SLOT                       opens slot 0 to 7, or opens it anew: it holds nothing\n\
-        \x20 feed SLOT KIND [size=N] BYTES   reads a payload; kinds 45, 47, 150, 154 and 155 are held until replaced\n\
+        \x20 feed SLOT KIND [size=N] BYTES   reads a payload; kinds 45, 47, 150, 154 and 155 are held, each in place of the one before\n\
         \x20 picture SLOT                    shows what is held, and drops what does not persist\n\
         \x20 table SLOT NUMBERS              the region table of the held kind 155; it needs 9 numbers a row, so 288 are enough\n\
         \x20 sequence SLOT                   a new sequence starts: nothing is held\n\

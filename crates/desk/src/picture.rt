@@ -9,6 +9,7 @@ use print::text;
 use show::number::called;
 use slots::Pictured;
 use slots::Slots;
+ghost use mathlib.Core.Path.{_≡_};
 
 // A kind's record, and whether one is held.
 fn line(kind: u64, on: u8, row: &[u64]) -> bool {
@@ -56,7 +57,9 @@ fn records(held: Held) {
 }
 
 // The number and, unless the call is refused, what is held.
-pub fn pictured(r: Pictured) -> Slots {
+pub fn pictured(r: Pictured) -> Slots
+    ensures { λ s. ⌜ s ≡ r .slots ⌝ }
+{
     let answer = r.answer;
     let n = answer.number();
     called(n);

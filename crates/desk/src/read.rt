@@ -1,18 +1,20 @@
 // The calls that read a payload.
 use answers::Answer;
+use fields::record::PACKING_FIELDS;
+use lent::front;
 use reader::payload;
 use reader::user::user_part;
 use script::call::Payload;
 use script::line::BYTES;
 use show::style::Style;
 use slots::Slots;
-use words::place::front;
-
-// The numbers of the longest record.
-const ROW: usize = 313;
+ghost use mathlib.Core.Path.{_≡_};
+ghost use lib.ListN.{take};
+ghost use Rattle.feeding.specs.Feed.{fedTo};
 
 fn shown(style: Style, answer: Answer, p: Payload, bytes: &[u8]) {
-    let mut row = [0u64; ROW];
+    // a packing has the longest row
+    let mut row = [0u64; PACKING_FIELDS];
     let n = handing::write(&mut row, answer);
     let part = user_part(p.kind, p.size, bytes);
     show::answer::answer(style, n, p.kind, p.size, &row, part);
@@ -23,7 +25,9 @@ pub fn read(style: Style, p: Payload, lent: &[u8; BYTES]) {
     shown(style, payload::read(p.kind, p.size, bytes), p, bytes);
 }
 
-pub fn feed(slots: Slots, slot: u64, p: Payload, lent: &[u8; BYTES]) -> Slots {
+pub fn feed(slots: Slots, slot: u64, p: Payload, lent: &[u8; BYTES]) -> Slots
+    ensures { λ r. ⌜ r ≡ fedTo slots slot (p .kind) (p .size) (take (p .count) (now (lent .entry))) .slots ⌝ }
+{
     let bytes = front(lent, p.count);
     let fed = feeding::feed(slots, slot, p.kind, p.size, bytes);
     shown(Style::Line, fed.answer, p, bytes);

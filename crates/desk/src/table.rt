@@ -1,24 +1,26 @@
 // The region table of a slot.
 use print::numbered;
 use print::text;
+use regions::MOST;
 use rows::Tabled;
 use show::number::called;
 use slots::Slots;
-ghost use Prim.Native.Nat.{_≤_};
+ghost use Prim.Native.Nat.{_*_, _≤_};
+ghost use Rattle.regions.specs.List.{most};
 
-// 16 regions for each of two frames fill 288 numbers: lending more changes nothing.
-const MOST: usize = 288;
+// Two rows a region fill these: lending more changes nothing.
+const NUMBERS: usize = 18 * MOST;
 
 fn lent(n: u64) -> usize
-    ensures { λ r. ⌜ r ≤ 288 ⌝ }
+    ensures { λ r. ⌜ r ≤ 18 * most ⌝ }
 {
-    if n < MOST as u64 {
+    if n < NUMBERS as u64 {
         return n as usize;
     }
-    MOST
+    NUMBERS
 }
 
-fn shown(r: Tabled, rows: &[u64; MOST]) {
+fn shown(r: Tabled, rows: &[u64; NUMBERS]) {
     match r {
         Tabled::Rows(count) => {
             numbered(b"0 done, rows: #", count as u64);
@@ -30,7 +32,7 @@ fn shown(r: Tabled, rows: &[u64; MOST]) {
 }
 
 pub fn table(slots: Slots, slot: u64, n: u64) {
-    let mut rows = [0u64; MOST];
+    let mut rows = [0u64; NUMBERS];
     let start = 0;
     let end = lent(n);
     let r = tables::table(slots, slot, &mut rows[start..end]);

@@ -2,8 +2,8 @@
 use Prim.Native.Nat.{ℕ}
 use mathlib.Core.Bool.{Bool, true, false, _&&_}
 use lib.Dec.{leb}
+use Rattle.bits.specs.Bits.{mostBytes}
 use Rattle.answers.specs.Listed.{named}
-use Rattle.answers.specs.declared.kind.Kind.{Kind}
 use Rattle.answers.specs.declared.kind.Named.{Named}
 use Rattle.answers.specs.declared.kind.Named.the-variants as names
 use Rattle.entry.specs.declared.Entry.{Entry}
@@ -11,15 +11,12 @@ use Rattle.entry.specs.declared.Entry.the-variants.{Unlisted, Oversized,
 
 -- the stated size is within the limit and the lent bytes
 abbrev pub fits : ℕ → ℕ → Bool
-fits size room = leb size 8192 && leb size room
+fits size room = leb size mostBytes && leb size room
 
-abbrev pub bySize : Kind → Bool → Entry
-bySize k true = Payload k
-bySize k false = Oversized k
-
-abbrev pub byName : Named → ℕ → ℕ → Entry
-byName names.Unlisted size room = Unlisted
-byName (names.Listed k) size room = bySize k (fits size room)
+abbrev pub entered : Named → Bool → Entry
+entered names.Unlisted fit = Unlisted
+entered (names.Listed k) true = Payload k
+entered (names.Listed k) false = Oversized k
 
 unfoldable pub entryTo : ℕ → ℕ → ℕ → Entry
-entryTo n size room = byName (named n) size room
+entryTo n size room = entered (named n) (fits size room)

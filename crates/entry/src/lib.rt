@@ -2,8 +2,6 @@
 use answers::kind::Kind;
 use answers::kind::Named;
 ghost use mathlib.Core.Path.{_≡_};
-ghost use Prim.Native.Nat.{_≤_};
-ghost use lib.ListN.{length, take};
 ghost use Rattle.entry.specs.Entry.{entryTo};
 
 pub enum Entry {
@@ -27,12 +25,4 @@ pub fn judged(kind: u64, size: u64, room: usize) -> Entry
         return Entry::Oversized(k);
     }
     Entry::Payload(k)
-}
-
-// The first n of the lent bytes.
-pub fn front(bytes: &[u8], n: usize) -> &[u8]
-    requires { ⌜ n ≤ length (now bytes) ⌝ }
-    ensures { λ r. ⌜ now r ≡ take n (now (bytes .entry)) ⌝ }
-{
-    &bytes[0..n]
 }

@@ -1,4 +1,4 @@
--- The payloads of 01 for kind 150, and its edges.
+-- Kind 150 at its edges. The payloads of 01 are the reader's.
 -- Assumes nothing.
 use Prim.Native.Nat.{ℕ}
 use mathlib.Core.Path.{refl}
@@ -17,20 +17,18 @@ abbrev fields : ℕ → ℕ → ℕ → ℕ → ℕ → ℕ → ℕ → Out Equi
 fields cancel persistence guarded type left right end =
     taken (record { cancel = cancel; persistence = persistence; guarded = guarded; «guard_type» = type; «left_width» = left; «right_width» = right }) end
 
--- 44 and 5C are one record: the reserved bits say nothing. A cancel is one bit. Nothing.
-unguarded :
+-- A cancel is one bit. Nothing.
+bare :
     Worked equirectangular
-    (row (0x44 ∷ []) (fields 0 1 0 0 0 0 5) ∷ row (0x5c ∷ []) (fields 0 1 0 0 0 0 5) ∷ row (0xc0 ∷ []) (fields 1 0 0 0 0 0 1) ∷ row [] (refused Short) ∷ [])
+    (row (0xc0 ∷ []) (fields 1 0 0 0 0 0 1) ∷ row [] (refused Short) ∷ [])
 unfolding equirectangular runAt run elementFront uFront from part number bitAt
-unguarded = refl
+bare = refl
 
--- Type 3. A coded type of 0 breaks no rule, and 4 and 7 are handed out as 0; left stands before right. The right width lacks.
+-- A coded type of 0 breaks no rule, and 4 is handed out as 0; left stands before right. The right width lacks.
 guarded :
     Worked equirectangular
-    (row (0x63 ∷ 8 ∷ 8 ∷ []) (fields 0 1 1 3 8 8 24)
-    ∷ row (0x60 ∷ 8 ∷ 9 ∷ []) (fields 0 1 1 0 8 9 24)
+    (row (0x60 ∷ 8 ∷ 9 ∷ []) (fields 0 1 1 0 8 9 24)
     ∷ row (0x64 ∷ 255 ∷ 1 ∷ []) (fields 0 1 1 0 255 1 24)
-    ∷ row (0x67 ∷ 8 ∷ 8 ∷ []) (fields 0 1 1 0 8 8 24)
     ∷ row (0x63 ∷ 8 ∷ []) (refused Short)
     ∷ [])
 unfolding equirectangular guardBand runAt run elementFront uFront from part number bitAt

@@ -31,7 +31,7 @@ impl GuardBandRead {
     {
         match self {
             GuardBandRead::Refused(why) => why,
-            GuardBandRead::Taken(_, _) => Refusal::Short,
+            GuardBandRead::Taken(_, _) => Refusal::unasked(),
         }
     }
 }

@@ -52,7 +52,7 @@ impl EquirectangularRead {
     {
         match self {
             EquirectangularRead::Refused(why) => why,
-            EquirectangularRead::Taken(_, _) => Refusal::Short,
+            EquirectangularRead::Taken(_, _) => Refusal::unasked(),
         }
     }
 }

@@ -14,6 +14,7 @@ use Rattle.aside.specs.SetAside.{reservedId, reservedType, reservedInterpretati
 use Rattle.frame_packing.specs.declared.FramePacking.{FramePacking}
 use Rattle.answers.specs.Listed.{named, readingOf}
 use Rattle.answers.specs.Answer.{plain, made, refusedAs}
+use Rattle.entry.specs.Entry.{entryTo}
 use Rattle.reader.specs.Reader.{answerTo}
 use Rattle.answers.specs.declared.kind.Kind.the-variants as kinds
 use Rattle.answers.specs.declared.Outcome.the-variants.{Taken, Refused}
@@ -74,11 +75,11 @@ abbrev payload : ℕ → List ℕ
 payload last = 0x81 ∷ 0x81 ∷ 0 ∷ 0 ∷ 0 ∷ last ∷ []
 
 reads : answerTo 45 6 (payload 2) ≡ made kinds.FramePacking Taken (message 1) 0
-unfolding answerTo named readingOf whole framePacking arrangement sixFlags gridPositions run elementFront ueAfter uFront from part number bitAt lastOne tailOf setAside reservedId reservedType reservedInterpretation
+unfolding answerTo entryTo named readingOf whole framePacking arrangement sixFlags gridPositions run elementFront ueAfter uFront from part number bitAt lastOne tailOf setAside reservedId reservedType reservedInterpretation
 reads = refl
 
 reads-unpersisting : answerTo 45 6 (payload 0) ≡ made kinds.FramePacking Taken (message 0) 0
-unfolding answerTo named readingOf whole framePacking arrangement sixFlags gridPositions run elementFront ueAfter uFront from part number bitAt lastOne tailOf setAside reservedId reservedType reservedInterpretation
+unfolding answerTo entryTo named readingOf whole framePacking arrangement sixFlags gridPositions run elementFront ueAfter uFront from part number bitAt lastOne tailOf setAside reservedId reservedType reservedInterpretation
 reads-unpersisting = refl
 
 abbrev s1 : Slots

@@ -3,37 +3,38 @@
 -- Assumes nothing.
 use Prim.Native.Nat.{ℕ}
 use native.Mathlib.Omega.{arith}
-use mathlib.Core.Path.{_≡_, refl, sym, ap, _∙_}
-use mathlib.Core.Logic.{_≢_, _↔_, inl, inr}
+use mathlib.Core.Path.{_≡_, refl, sym, ap, _∙_, subst}
+use mathlib.Core.Logic.{_≢_, _↔_, inr}
 use mathlib.Core.Bool.{Bool, true, false}
 use mathlib.Core.List.{List}
 use lib.ListN.{take}
 use lib.Seq.{set-getD}
 use Rattle.bits.specs.Refusals as refusals
-use Rattle.bits.specs.Bits.{bitsOf}
 use Rattle.bits.specs.declared.refusal.Refusal.{Refusal}
 use Rattle.format.specs.Whole.{Reading, taken, setAside, refused}
 use Rattle.format.proofs.Whole as whole
-use Rattle.answers.specs.Listed.{Record, form, named, readingOf}
+use Rattle.answers.specs.Listed.{Record, form, number, named, readingOf}
 use Rattle.answers.specs.Answer.{numberOf, answerFor}
-use Rattle.reader.specs.Reader.{sized, cut, answered, answerTo}
+use Rattle.reader.specs.Reader.{answerTo}
+use Rattle.reader.specs.Cases.{stated, Case}
+use Rattle.reader.specs.Cases as cases
 use Rattle.answers.specs.declared.kind.Kind.{Kind}
-use Rattle.answers.specs.declared.kind.Kind.the-variants as kinds
 use Rattle.answers.specs.declared.kind.Named.{Named}
 use Rattle.answers.specs.declared.kind.Named.the-variants.{Listed, Unlisted}
 use Rattle.answers.specs.declared.Answer.{Answer}
 use Rattle.answers.specs.declared.Outcome.{Outcome}
 use Rattle.answers.specs.declared.Outcome.the-variants.{Taken, SetAside, Refused}
-use Rattle.reader.proofs.Demand2.{one-of, taken-when, aside-when, stopped-when, tail-when}
-use Rattle.reader.proofs.Numbers.{numberIn, Call, call, unlisted, oversized, payload}
+use Rattle.answers.proofs.KindLaws.{one-kind}
+use Rattle.reader.proofs.Calls.{Call, unlisted, oversized, payload, call}
+use Rattle.reader.proofs.Demand2.{case}
 use Rattle.format.specs.Syntax.{if_then_else_}
-use Rattle.slots.specs.Slots.{Eight, slotAt, withSlot, isOpen, holding, replaced}
+use Rattle.slots.specs.Slots.{Eight, slotAt, withSlot, isOpen, holding, Shut, ButFor, replaced}
 use Rattle.held.specs.declared.Held.{Held}
 use Rattle.slots.specs.declared.Slot.{Slot}
 use Rattle.slots.specs.declared.Slots.{Slots}
-use Rattle.slots.proofs.Laws.{ButFor, Shut, shut-past, replaced-slots, replaced-there, replaced-but-for}
+use Rattle.slots.proofs.Laws.{apart, shut-off, replaced-slots, replaced-there, replaced-but-for}
 use Rattle.feeding.specs.declared.Fed.{Fed}
-use Rattle.feeding.specs.Feed.{heldBy, heldAfter, shutAs, shutAnswer, fedTo}
+use Rattle.feeding.specs.Feed.{Unheld, alpha, depth, registered, unregistered, heldBy, heldAfter, shutAs, shutAnswer, fedTo}
 
 -- ---- what leaves the held records
 
@@ -47,13 +48,7 @@ untaken-keeps h a = go (a .outcome)
     go SetAside d = refl
     go (Refused r) d = refl
 
--- kinds 165, 177, 4 and 5 are read and not held
-pub data Unheld : Kind → Type 0 where
-  alpha : Unheld kinds.Alpha
-  depth : Unheld kinds.Depth
-  registered : Unheld kinds.Registered
-  unregistered : Unheld kinds.Unregistered
-
+-- nor does a kind that is not held
 pub unheld-keeps : (h : Held) (k : Kind) (x : Reading (Record k)) → Unheld k → heldAfter h (answerFor k x) ≡ h
 unfolding heldAfter
 unheld-keeps h k (setAside a e) u = refl
@@ -73,38 +68,23 @@ pub shut-8 : (kind : ℕ) → numberOf (shutAnswer kind) ≡ 8
 unfolding shutAnswer
 shut-8 kind = shut-number (named kind)
 
-of-element : (r : Refusal) → whole.OfElement r → refusals.numberOf r ≡ 8 → ⊥
-of-element r whole.short e = omega arith
-of-element r whole.zeros e = omega arith
-of-element r whole.rule e = omega arith
-of-element r whole.regions e = omega arith
+of-element : {r : Refusal} → refusals.OfElement r → refusals.numberOf r ≡ 8 → ⊥
+of-element refusals.short e = omega arith
+of-element refusals.zeros e = omega arith
+of-element refusals.rule e = omega arith
+of-element refusals.regions e = omega arith
 
--- no payload is answered 8
-payload-not-8 : (k : Kind) (s : List ℕ) → numberIn (readingOf k s) ≡ 8 → ⊥
-payload-not-8 k s h = go (one-of k s)
-  where
-    stays : (x : Reading (Record k)) → readingOf k s ≡ x → numberIn x ≡ 8
-    stays x e = ap numberIn (sym e) ∙ h
-
-    go : whole.Seen (form k) (bitsOf s) → ⊥
-    go (whole.holds a e d) = at (form k .aside a) refl
-      where
-        at : (b : Bool) → form k .aside a ≡ b → ⊥
-        at true q = omega (arith, stays (setAside a e) (aside-when k s a e .1 (d, q)))
-        at false q = omega (arith, stays (taken a e) (taken-when k s a e .1 (d, q)))
-    go (whole.stops r d) =
-        let o = whole.stopped-which (form k .table) (bitsOf s) r d in
-        of-element r o (stays (refused r) (stopped-when k s r o .1 d))
-    go (whole.tail d) = omega (arith, stays (refused _) (tail-when k s .1 d))
-
--- and so no reading
+-- no reading is answered 8
 pub answer-not-8 : (kind size : ℕ) (bytes : List ℕ) → numberOf (answerTo kind size bytes) ≡ 8 → ⊥
-answer-not-8 kind size bytes h = go (call kind size bytes)
+answer-not-8 kind size bytes h = go (case kind size bytes)
   where
-    go : Call kind size bytes → ⊥
-    go (unlisted e m) = omega arith
-    go (oversized k e c m) = omega arith
-    go (payload k e b c m) = payload-not-8 k (take size bytes) (sym m ∙ h)
+    go : Case kind size bytes → ⊥
+    go (cases.unlisted f m) = omega (arith, ap numberOf m)
+    go (cases.oversized k f o m) = omega (arith, ap numberOf m)
+    go (cases.stops k w r d m) = of-element (whole.stopped-which (form k .table) (stated size bytes) r d) (sym (ap numberOf m) ∙ h)
+    go (cases.tail k w d m) = omega (arith, ap numberOf m)
+    go (cases.aside k w a e d s m) = omega (arith, ap numberOf m)
+    go (cases.taken k w a e d s m) = omega (arith, ap numberOf m)
 
 -- ---- a feed replaces an open slot by what is left of it
 
@@ -140,14 +120,7 @@ module _ (s : Slots) (n kind size : ℕ) (bytes : List ℕ) where
   fed-8 e = rw fed-answer (go (isOpen (slotAt s n)) refl)
     where
       go : (b : Bool) → isOpen (slotAt s n) ≡ b → (numberOf (if b then answerTo kind size bytes else shutAnswer kind) ≡ 8) ↔ Shut s n
-      go true o = (λ h. absurd (answer-not-8 kind size bytes h), λ h. absurd (never h))
-        where
-          off : isOpen (slotAt s n) ≡ false → ⊥
-          off f = let z : _≡_ {A = ℕ} 0 1 = cc in omega arith
-
-          never : Shut s n → ⊥
-          never (inl l) = off (shut-past s n e l)
-          never (inr f) = off f
+      go true o = (λ h. absurd (answer-not-8 kind size bytes h), λ h. absurd (apart o (shut-off s n e h)))
       go false o = (λ h. inr o, λ h. shut-8 kind)
 
   keeps : heldAfter (slotAt s n .held) (answerTo kind size bytes) ≡ slotAt s n .held → fedTo s n kind size bytes .slots ≡ s
@@ -166,6 +139,15 @@ module _ (s : Slots) (n kind size : ℕ) (bytes : List ℕ) where
       go false o = fed-slots ∙ replaced-slots s n left ∙ rw o
 
   -- nor does any payload of kind 4, 5, 165 or 177, whatever it is answered
-  pub fed-unheld : (k : Kind) → named kind ≡ Listed k → Unheld k → fedTo s n kind size bytes .slots ≡ s
-  unfolding answerTo
-  fed-unheld k e u = keeps (ap (λ x. heldAfter (slotAt s n .held) (answered x size bytes)) e ∙ unheld-keeps _ k (cut k (sized size bytes) size bytes) u)
+  pub fed-unheld : (k : Kind) → kind ≡ number k → Unheld k → fedTo s n kind size bytes .slots ≡ s
+  fed-unheld k e u = go (call kind size bytes)
+    where
+      untaken : {x : Answer} → answerTo kind size bytes ≡ x → x .outcome ≢ Taken → fedTo s n kind size bytes .slots ≡ s
+      untaken m d = keeps (ap (heldAfter (slotAt s n .held)) m ∙ untaken-keeps (slotAt s n .held) _ d)
+
+      go : Call kind size bytes → fedTo s n kind size bytes .slots ≡ s
+      go (unlisted f m) = absurd (f k e)
+      go (oversized j f o m) = untaken m (λ q. let z : _≡_ {A = ℕ} 0 1 = cc in omega arith)
+      go (payload j w m) =
+          let same : k ≡ j = one-kind k j (sym e ∙ w .0) in
+          keeps (ap (heldAfter (slotAt s n .held)) m ∙ unheld-keeps (slotAt s n .held) j (readingOf j (take size bytes)) (subst Unheld same u))

@@ -6,6 +6,8 @@ use Rattle.regions.specs.declared.Packing.{Packing}
 use Rattle.answers.specs.Listed.{named}
 use Rattle.answers.specs.Answer.{plain, refusedAs}
 use Rattle.reader.specs.Reader.{answerTo}
+use Rattle.answers.specs.declared.kind.Kind.{Kind}
+use Rattle.answers.specs.declared.kind.Kind.the-variants as kinds
 use Rattle.answers.specs.declared.kind.Named.{Named}
 use Rattle.answers.specs.declared.kind.Named.the-variants.{Listed, Unlisted}
 use Rattle.answers.specs.declared.Answer.{Answer}
@@ -33,6 +35,13 @@ heldWith h message.Depth p = h
 heldWith h (message.Registered x) p = h
 heldWith h message.Unregistered p = h
 heldWith h message.Nothing p = h
+
+-- kinds 165, 177, 4 and 5 "are read and not held"
+pub data Unheld : Kind → Type 0 where
+  alpha : Unheld kinds.Alpha
+  depth : Unheld kinds.Depth
+  registered : Unheld kinds.Registered
+  unregistered : Unheld kinds.Unregistered
 
 -- what is set aside or refused leaves them
 abbrev pub heldBy : Held → Outcome → Message → Packing → Held

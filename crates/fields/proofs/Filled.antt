@@ -1,11 +1,12 @@
 -- Rows of zeros that the parts of a record are written over, one after another, are that record's fields.
 -- Assumes nothing.
-use Prim.Native.Nat.{ℕ}
+use Prim.Native.Nat.{ℕ, _+_, _*_}
 use mathlib.Core.Path.{_≡_, refl}
 use mathlib.Core.List.{List, [], _∷_, _++_}
 use native.Mathlib.Omega.{arith}
 use lib.ListN.{length, replicate}
 use lib.Seq.{sets}
+use Rattle.regions.specs.List.{most}
 use Rattle.regions.specs.declared.Packing.{Packing}
 use Rattle.depth.specs.declared.Depth.{Depth}
 use Rattle.fields.specs.Fields.{headFields, regionsFields, packingFields, presenceFields, valueFields, depthFields}
@@ -14,12 +15,12 @@ use Rattle.fields.proofs.RowLaws.{filled, joined, fields-length}
 pub identifier-filled : (e : ℕ) (xs q : List ℕ) → length xs ≡ 16 → q ≡ sets (replicate 17 0) 0 (e ∷ xs) → q ≡ e ∷ xs
 identifier-filled e xs q n h = filled 17 (e ∷ xs) q (omega arith) h
 
-module _ (e : ℕ) (a : Packing) (r q : List ℕ) (n : length (a .regions) ≡ 16)
-    (h₁ : r ≡ sets (replicate 313 0) 0 (e ∷ headFields a)) (h₂ : q ≡ sets r 9 (regionsFields (a .regions))) where
+module _ (e : ℕ) (a : Packing) (r q : List ℕ) (n : length (a .regions) ≡ most)
+    (h₁ : r ≡ sets (replicate (9 + 19 * most) 0) 0 (e ∷ headFields a)) (h₂ : q ≡ sets r 9 (regionsFields (a .regions))) where
   pub packing-filled : q ≡ e ∷ packingFields a
   packing-filled =
-      filled 313 (e ∷ packingFields a) q (omega (arith, fields-length (a .regions)))
-      (joined (e ∷ headFields a) (regionsFields (a .regions)) (replicate 313 0) r q 9 refl h₁ h₂)
+      filled (9 + 19 * most) (e ∷ packingFields a) q (omega (arith, fields-length (a .regions)))
+      (joined (e ∷ headFields a) (regionsFields (a .regions)) (replicate (9 + 19 * most) 0) r q 9 refl h₁ h₂)
 
 module _ (e : ℕ) (a : Depth) (r₁ r₂ r₃ r₄ r₅ r₆ q : List ℕ) (n : length (a .model) ≡ 63)
     (h₁ : r₁ ≡ sets (replicate 95 0) 0 (e ∷ presenceFields a)) (h₂ : r₂ ≡ sets r₁ 7 (valueFields (a .«z_near»)))

@@ -99,7 +99,7 @@ headFields a =
     ∷ a .«packed_height»
     ∷ []
 
--- all sixteen entries, whatever the count
+-- every entry of the regions, whatever the count
 abbrev pub packingFields : Packing → List ℕ
 packingFields a = headFields a ++ regionsFields (a .regions)
 

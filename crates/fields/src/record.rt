@@ -276,7 +276,10 @@ fn put_regions(row: &mut [u64], at: usize, regions: [Region; MOST])
     }
 }
 
-pub fn packing(extension: u32, a: Packing) -> [u64; 313]
+// The extension count, eight numbers before the regions, and every region's.
+pub const PACKING_FIELDS: usize = 9 + 19 * MOST;
+
+pub fn packing(extension: u32, a: Packing) -> [u64; PACKING_FIELDS]
     ensures { λ r. ⌜ r ≡ extension ∷ packingFields a ⌝ }
 {
     let regions = a.regions;
@@ -291,7 +294,7 @@ pub fn packing(extension: u32, a: Packing) -> [u64; 313]
         a.packed_width as u64,
         a.packed_height as u64,
     ];
-    let mut r = [0u64; 313];
+    let mut r = [0u64; PACKING_FIELDS];
     put(&mut r, 0, &head);
     put_regions(&mut r, 9, regions);
     r

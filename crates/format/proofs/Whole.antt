@@ -10,13 +10,13 @@ use native.Mathlib.Omega.{arith}
 use lib.ListN.{length, drop}
 use lib.Seq.{drop-at}
 use Rattle.bits.specs.Bits.{from, bitsOf}
-use Rattle.bits.specs.Refusals.{Breach, broken, tooMany, refusalOf}
+use Rattle.bits.specs.Refusals.{Breach, broken, tooMany, refusalOf, OfElement, short, zeros, rule, regions}
 use Rattle.bits.specs.Out as out
 use Rattle.bits.specs.Tail.{tailOf, tailAt}
 use Rattle.bits.specs.declared.ending.Ending.{Ending}
 use Rattle.bits.specs.declared.ending.Ending.the-variants.{Extension, Refused}
 use Rattle.bits.specs.declared.refusal.Refusal.{Refusal}
-use Rattle.bits.specs.declared.refusal.Refusal.the-variants.{Short, Zeros, Rule, Regions, Tail}
+use Rattle.bits.specs.declared.refusal.Refusal.the-variants.{Tail}
 use Rattle.bits.proofs.BitLaws.{drop-from}
 use Rattle.bits.proofs.Reading.{tail-permitted, tail-refused, tail-seen}
 use Rattle.format.specs.Format.{Element, Format, done, read, meaning, run, runAt}
@@ -24,18 +24,12 @@ use Rattle.format.specs.Coded.{Coded}
 use Rattle.format.specs.Stopped.{StoppedHere, Stopped}
 use Rattle.format.specs.Stopped as stopped
 use Rattle.format.specs.Varied.{Variation}
-use Rattle.format.specs.Whole.{Form, Reading, taken, setAside, refused, given, ended, ending, closed, whole, Follows, Holds, BadTail}
+use Rattle.format.specs.Whole.{Form, Reading, taken, setAside, refused, given, ended, ending, closed, whole, Follows, Holds, BadTail, Seen, holds, stops, tail}
 use Rattle.format.proofs.Run.{run-sound, run-complete, run-stopped}
 use Rattle.format.proofs.Alike.{varied-taken, varied-length}
 use Rattle.format.proofs.Payload as payload
 
 -- ---- the refusals of elements are 3, 4, 5 and 6
-
-pub data OfElement : Refusal → Type 0 where
-  short : OfElement Short
-  zeros : OfElement Zeros
-  rule : OfElement Rule
-  regions : OfElement Regions
 
 here-which : (e : Element) (w : List Bool) {r : Refusal} → StoppedHere e w r → OfElement r
 here-which e w (stopped.short d) = short
@@ -83,7 +77,7 @@ module _ {A : Type 0} where
   aside-refused : {X : Type 0} {r : Refusal} {a : A} {e : ℕ} → refused r ≡ setAside a e → X
   aside-refused h = let z : _≡_ {A = ℕ} 0 1 = cc in absurd (omega arith)
 
-  given-refused : {X : Type 0} {r : Refusal} (b : Bool) (a : A) (e : ℕ) → given b a e ≡ refused r → X
+  pub given-refused : {X : Type 0} {r : Refusal} (b : Bool) (a : A) (e : ℕ) → given b a e ≡ refused r → X
   given-refused true a e h = aside-refused (sym h)
   given-refused false a e h = taken-refused (sym h)
 
@@ -102,12 +96,6 @@ module _ {A : Type 0} where
       ap (whole k) (d .split)
       ∙ at-message k (d .message) (d .rest) a (d .coded)
       ∙ ap (ended (k .aside) a) (ending-iff (k .tailed) (d .rest) e .1 (d .follows))
-
-  -- the three ways of a payload
-  pub data Seen (k : Form A) (w : List Bool) : Type 0 where
-    holds : (a : A) (e : ℕ) → Holds k w a e → Seen k w
-    stops : (r : Refusal) → Stopped (k .table) w r → Seen k w
-    tail : BadTail k w → Seen k w
 
   pub seen : (k : Form A) (w : List Bool) → Seen k w
   seen k w = go (run (k .table) w) refl

@@ -1,3 +1,4 @@
+-- The language of tables, and what its theorems speak of.
 pub mod Format
 pub mod Coded
 pub mod Stopped

@@ -45,25 +45,17 @@ guard = read (guardType any) done
 abbrev pub handed : ℕ → ℕ
 handed m = cond (ltb m 4) m 0
 
-infixl 40 _must_
--- an element with a rule of its own
-abbrev pub _must_ : Format ℕ → (ℕ → Verdict) → Format ℕ
-done a must rule = done a
-read (coded h old) k must rule = read (coded h rule) k
-read (reserved n) k must rule = read (reserved n) k
-read (guardType old) k must rule = read (guardType rule) k
-
 -- ---- rules
 
-infixl 50 _unless_ _or_
+infixl 50 _unless_ _also_
 abbrev pub _unless_ : Breach → Bool → Verdict
 b unless true = fine
 b unless false = against b
 
--- the first of two that speaks against
-abbrev pub _or_ : Verdict → Verdict → Verdict
-fine or v = v
-against b or v = against b
+-- both are to be fine: the first of two that speaks against
+abbrev pub _also_ : Verdict → Verdict → Verdict
+fine also v = v
+against b also v = against b
 
 abbrev pub atLeast : ℕ → ℕ → Verdict
 atLeast n x = broken unless leb n x
@@ -77,6 +69,22 @@ between a b z = broken unless (leZ a z && leZ z b)
 -- of a guard band type: not 0 where its not-used-for-prediction flag is 0
 abbrev pub usable : ℕ → ℕ → Verdict
 usable notUsed m = broken unless (eqb notUsed 1 || leb 1 m)
+
+-- What `f must rule` is: a format where a rule can judge what f starts with. Where nothing is read, or reserved bits, which say nothing, it is
+-- no format, so that no table can have such a rule.
+abbrev pub Ruled : Format ℕ → Type 0
+Ruled (done a) = Unit {0}
+Ruled (read (coded h rule) k) = Format ℕ
+Ruled (read (reserved n) k) = Unit {0}
+Ruled (read (guardType rule) k) = Format ℕ
+
+infixl 40 _must_
+-- an element with a rule, after those that it has
+abbrev pub _must_ : (f : Format ℕ) → (ℕ → Verdict) → Ruled f
+done a must rule = tt
+read (coded h old) k must rule = read (coded h (λ m. old m also rule m)) k
+read (reserved n) k must rule = tt
+read (guardType old) k must rule = read (guardType (λ m. old m also rule m)) k
 
 -- ---- parts
 

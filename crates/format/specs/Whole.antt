@@ -11,6 +11,7 @@ use Rattle.bits.specs.declared.ending.Ending.the-variants.{Extension, Refused}
 use Rattle.bits.specs.declared.refusal.Refusal.{Refusal}
 use Rattle.format.specs.Format.{Format, run}
 use Rattle.format.specs.Coded.{Coded}
+use Rattle.format.specs.Stopped.{Stopped}
 
 -- how payloads of a kind are formed: its table, whether its payloads can have a tail, and which of its messages are to be set aside
 pub record Form (A : Type 0) : Type 0 where
@@ -70,3 +71,9 @@ pub record BadTail {A : Type 0} (k : Form A) (w : List Bool) : Type 0 where
   pub coded : Coded (k .table) message value
   pub can : k .tailed ≡ true
   pub none : (e : ℕ) → Ended rest e → ⊥
+
+-- The three ways of a payload: a message and what may follow it, bits that stop it, or a message and what may not follow it.
+pub data Seen {A : Type 0} (k : Form A) (w : List Bool) : Type 0 where
+  holds : (a : A) (e : ℕ) → Holds k w a e → Seen k w
+  stops : (r : Refusal) → Stopped (k .table) w r → Seen k w
+  tail : BadTail k w → Seen k w

@@ -1,4 +1,4 @@
--- Payloads of kind 45, those of 01 and others at its edges.
+-- Payloads of kind 45 at its edges. Those of 01 are the reader's.
 -- Assumes nothing.
 use Prim.Native.Nat.{ℕ}
 use mathlib.Core.Path.{refl}
@@ -6,10 +6,10 @@ use mathlib.Core.List.{[], _∷_}
 use Rattle.bits.specs.Bits.{bitAt, part, from, number}
 use Rattle.bits.specs.Elements.{uFront, ueAfter}
 use Rattle.bits.specs.Out.{taken, refused}
-use Rattle.bits.specs.declared.refusal.Refusal.the-variants.{Short, Zeros}
+use Rattle.bits.specs.declared.refusal.Refusal.the-variants.{Short}
 use Rattle.format.specs.Format.{elementFront, run, runAt}
 use Rattle.format.proofs.Worked.{Worked, row}
-use Rattle.frame_packing.specs.FramePacking.{noFlags, noGrid, noLayout, sixFlags, gridPositions, arrangement, framePacking}
+use Rattle.frame_packing.specs.FramePacking.{noGrid, noLayout, sixFlags, gridPositions, arrangement, framePacking}
 use Rattle.frame_packing.specs.declared.FramePacking.{FramePacking}
 use Rattle.frame_packing.specs.declared.flags.Flags.{Flags}
 use Rattle.frame_packing.specs.declared.grid.Grid.{Grid}
@@ -40,25 +40,20 @@ flags-of a b c d e f =
       «frame1_self_contained» = f;
     }
 
--- a short id: id, cancel and upsampled are three bits. The largest id. 24 zeros, and 32. Of id 7 and a cancel the upsampled flag lacks.
+-- The largest id. Of id 7 and a cancel the upsampled flag lacks.
 cancels :
     Worked framePacking
-    (row (0xd0 ∷ []) (taken (cancel-of 0 0) 3)
-    ∷ row (0x00 ∷ 0x00 ∷ 0x00 ∷ 0x01 ∷ 0xff ∷ 0xff ∷ 0xff ∷ 0xff ∷ 0x80 ∷ []) (taken (cancel-of 4294967294 1) 65)
-    ∷ row (0x00 ∷ 0x00 ∷ 0x00 ∷ []) (refused Short)
-    ∷ row (0x00 ∷ 0x00 ∷ 0x00 ∷ 0x00 ∷ []) (refused Zeros)
+    (row (0x00 ∷ 0x00 ∷ 0x00 ∷ 0x01 ∷ 0xff ∷ 0xff ∷ 0xff ∷ 0xff ∷ 0x80 ∷ []) (taken (cancel-of 4294967294 1) 65)
     ∷ row (0x11 ∷ []) (refused Short)
     ∷ [])
 unfolding framePacking runAt run elementFront ueAfter uFront from part number bitAt
 cancels = refl
 
--- Side by side; the same with other bits in the reserved byte. Type 5 has no grid positions, nor has quincunx sampling, with flags that
+-- Type 5 has no grid positions, nor has quincunx sampling, with flags that
 -- 000 forbids to encoders; a reserved type has them.
 messages :
     Worked framePacking
-    (row (0x81 ∷ 0x81 ∷ 0x00 ∷ 0x00 ∷ 0x00 ∷ 0x02 ∷ []) (taken (message-of 3 0 1 noFlags noGrid 1 0) 48)
-    ∷ row (0x81 ∷ 0x81 ∷ 0x00 ∷ 0x00 ∷ 0x03 ∷ 0xfe ∷ []) (taken (message-of 3 0 1 noFlags noGrid 1 0) 48)
-    ∷ row (0x82 ∷ 0x81 ∷ 0x18 ∷ 0x01 ∷ []) (taken (message-of 5 0 1 (flags-of 0 0 0 1 1 0) noGrid 0 1) 32)
+    (row (0x82 ∷ 0x81 ∷ 0x18 ∷ 0x01 ∷ []) (taken (message-of 5 0 1 (flags-of 0 0 0 1 1 0) noGrid 0 1) 32)
     ∷ row (0x81 ∷ 0xc2 ∷ 0x5a ∷ 0x97 ∷ []) (taken (message-of 3 1 2 (flags-of 0 1 0 1 1 0) noGrid 1 1) 32)
     ∷ row (0xa6 ∷ 0x80 ∷ 0x80 ∷ 0x48 ∷ 0xd0 ∷ 0x02 ∷ [])
     (taken (message-of 77 0 0 (flags-of 1 0 0 0 0 0) (record { «frame0_x» = 1; «frame0_y» = 2; «frame1_x» = 3; «frame1_y» = 4 }) 1 0) 48)

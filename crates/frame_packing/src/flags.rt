@@ -32,7 +32,7 @@ impl FlagsRead {
     {
         match self {
             FlagsRead::Refused(why) => why,
-            FlagsRead::Taken(_, _) => Refusal::Short,
+            FlagsRead::Taken(_, _) => Refusal::unasked(),
         }
     }
 }

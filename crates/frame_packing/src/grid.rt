@@ -45,7 +45,7 @@ impl GridRead {
     {
         match self {
             GridRead::Refused(why) => why,
-            GridRead::Taken(_, _) => Refusal::Short,
+            GridRead::Taken(_, _) => Refusal::unasked(),
         }
     }
 }

@@ -62,7 +62,7 @@ impl LayoutRead {
     {
         match self {
             LayoutRead::Refused(why) => why,
-            LayoutRead::Taken(_, _) => Refusal::Short,
+            LayoutRead::Taken(_, _) => Refusal::unasked(),
         }
     }
 }

@@ -53,7 +53,7 @@ impl FramePackingRead {
     {
         match self {
             FramePackingRead::Refused(why) => why,
-            FramePackingRead::Taken(_, _) => Refusal::Short,
+            FramePackingRead::Taken(_, _) => Refusal::unasked(),
         }
     }
 }

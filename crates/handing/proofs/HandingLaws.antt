@@ -2,33 +2,31 @@
 -- Assumes nothing.
 use Prim.Native.Nat.{ℕ, _≤_, _<_}
 use mathlib.Core.Path.{_≡_, sym, ap, _∙_}
-use mathlib.Core.List.{List, _∷_, _++_}
-use native.Mathlib.Nat.{zero-add}
-use native.Mathlib.Omega.{arith}
+use mathlib.Core.List.{List, _∷_}
 use borrow.Author.Tests.{le-leb, lt-leb}
-use lib.ListN.{length, drop}
-use lib.Seq.{sets, sets-eq}
+use lib.ListN.{length}
+use lib.Seq.{sets}
 use Rattle.bits.specs.declared.refusal.Refusal.{Refusal}
 use Rattle.answers.specs.Answer.{numberOf}
 use Rattle.answers.specs.declared.Answer.{Answer}
 use Rattle.answers.specs.declared.Outcome.{Outcome}
 use Rattle.answers.specs.declared.Outcome.the-variants.{Taken, SetAside, Refused}
 use Rattle.answers.specs.declared.Message.{Message}
-use Rattle.handing.specs.Handing.{Written, recordFields, fieldsOf, written, handed, wroteBy, wrote}
+use Rattle.lent.specs.Lent.{Left, left}
+use Rattle.lent.proofs.Stores.{sets-front}
+use Rattle.handing.specs.Handing.{recordFields, fieldsOf, handed, wroteBy, wroteFields}
 
 -- the lent row l, too short for xs or not
-pub few : (n : ℕ) (xs l : List ℕ) → length l < length xs → written 10 l ≡ handed n xs l
+pub few : (n : ℕ) (xs l : List ℕ) → length l < length xs → left 10 l ≡ handed n xs l
 unfolding handed
 few n xs l h = simp (lt-leb _ _ h)
 
-pub fitting : (n : ℕ) (xs l : List ℕ) → length xs ≤ length l → written n (sets l 0 xs) ≡ handed n xs l
+pub fitting : (n : ℕ) (xs l : List ℕ) → length xs ≤ length l → left n (sets l 0 xs) ≡ handed n xs l
 unfolding handed
-fitting n xs l h =
-    let front : sets l 0 xs ≡ xs ++ drop (length xs) l = rw (sets-eq xs l 0 (omega arith), zero-add) in
-    simp (le-leb _ _ h, front)
+fitting n xs l h = simp (le-leb _ _ h, sets-front xs l h)
 
 -- xs are the fields of a, whose message is m
-pub by-message : (n : ℕ) (a : Answer) (m : Message) (xs l : List ℕ) {o : Written} → a .message ≡ m → xs ≡ a .extension ∷ recordFields a m
+pub by-message : (n : ℕ) (a : Answer) (m : Message) (xs l : List ℕ) {o : Left ℕ} → a .message ≡ m → xs ≡ a .extension ∷ recordFields a m
     → o ≡ handed n xs l → o ≡ handed n (fieldsOf a) l
 unfolding fieldsOf
 by-message n a m xs l e f h =
@@ -36,15 +34,15 @@ by-message n a m xs l e f h =
 
 -- n is the number of a
 module _ (a : Answer) (n : ℕ) (l : List ℕ) (number : n ≡ numberOf a) where
-  outcome-is : {x : Outcome} → a .outcome ≡ x → wroteBy x a l ≡ wrote a l
-  unfolding wrote
+  outcome-is : {x : Outcome} → a .outcome ≡ x → wroteBy x a l ≡ wroteFields a l
+  unfolding wroteFields
   outcome-is e = sym (ap (λ (x : Outcome). wroteBy x a l) e)
 
-  pub by-taken : {o : Written} → a .outcome ≡ Taken → o ≡ handed n (fieldsOf a) l → o ≡ wrote a l
+  pub by-taken : {o : Left ℕ} → a .outcome ≡ Taken → o ≡ handed n (fieldsOf a) l → o ≡ wroteFields a l
   by-taken e h = h ∙ ap (λ (k : ℕ). handed k (fieldsOf a) l) number ∙ outcome-is e
 
-  pub by-aside : {o : Written} → a .outcome ≡ SetAside → o ≡ handed n (fieldsOf a) l → o ≡ wrote a l
+  pub by-aside : {o : Left ℕ} → a .outcome ≡ SetAside → o ≡ handed n (fieldsOf a) l → o ≡ wroteFields a l
   by-aside e h = h ∙ ap (λ (k : ℕ). handed k (fieldsOf a) l) number ∙ outcome-is e
 
-  pub by-refused : {why : Refusal} → a .outcome ≡ Refused why → written n l ≡ wrote a l
-  by-refused e = ap (λ (k : ℕ). written k l) number ∙ outcome-is e
+  pub by-refused : {why : Refusal} → a .outcome ≡ Refused why → left n l ≡ wroteFields a l
+  by-refused e = ap (λ (k : ℕ). left k l) number ∙ outcome-is e

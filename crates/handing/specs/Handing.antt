@@ -1,10 +1,11 @@
 -- The row of numbers that stands for an answer: the extension count, then the record's fields; and what a call leaves of a lent row.
 use Prim.Native.Nat.{ℕ}
 use mathlib.Core.Bool.{cond}
-use mathlib.Core.List.{List, [], _∷_, _++_}
+use mathlib.Core.List.{List, [], _∷_}
 use lib.Dec.{leb}
-use lib.ListN.{length, drop}
+use lib.ListN.{length}
 use Rattle.bits.specs.Refusals as refusals
+use Rattle.lent.specs.Lent.{Left, left, over}
 use Rattle.answers.specs.Answer.{numberOf}
 use Rattle.answers.specs.declared.Answer.{Answer}
 use Rattle.answers.specs.declared.Outcome.{Outcome}
@@ -39,24 +40,16 @@ fieldsOf a = a .extension ∷ recordFields a (a .message)
 
 -- ---- the call
 
--- what a call answers, and the lent row as it leaves it
-pub record Written : Type 0 where
-  pub number : ℕ
-  pub row : List ℕ
-
-abbrev pub written : ℕ → List ℕ → Written
-written number row = record { number = number; row = row }
-
--- the fields over the front of the row, and the numbers past them stay; 10, and nothing written, where they do not fit
-unfoldable pub handed : ℕ → List ℕ → List ℕ → Written
+-- the fields over the front of the row; 10, and nothing written, where they do not fit
+unfoldable pub handed : ℕ → List ℕ → List ℕ → Left ℕ
 handed number fields row =
-    cond (leb (length fields) (length row)) (written number (fields ++ drop (length fields) row)) (written (refusals.numberOf refusals.byRows) row)
+    cond (leb (length fields) (length row)) (left number (over fields row)) (left (refusals.numberOf refusals.byRows) row)
 
 -- a refusal writes nothing
-abbrev pub wroteBy : Outcome → Answer → List ℕ → Written
+abbrev pub wroteBy : Outcome → Answer → List ℕ → Left ℕ
 wroteBy Taken a row = handed (numberOf a) (fieldsOf a) row
 wroteBy SetAside a row = handed (numberOf a) (fieldsOf a) row
-wroteBy (Refused why) a row = written (numberOf a) row
+wroteBy (Refused why) a row = left (numberOf a) row
 
-unfoldable pub wrote : Answer → List ℕ → Written
-wrote a row = wroteBy (a .outcome) a row
+unfoldable pub wroteFields : Answer → List ℕ → Left ℕ
+wroteFields a row = wroteBy (a .outcome) a row

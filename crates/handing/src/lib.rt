@@ -6,11 +6,12 @@ use bits::refusal::Refusal;
 use fields::record;
 use lent::put;
 ghost use mathlib.Core.Path.{_≡_};
-ghost use Rattle.handing.specs.Handing.{written, handed, fieldsOf, wrote};
+ghost use Rattle.lent.specs.Lent.{left};
+ghost use Rattle.handing.specs.Handing.{handed, fieldsOf, wroteFields};
 
 // The room is judged first, and then all fields are written or none: the number is then 10.
 fn hand(row: &mut [u64], number: u32, fields: &[u64]) -> u32
-    ensures { λ r. ⌜ written r (now (row .exit)) ≡ handed number (now (fields .entry)) (now (row .entry)) ⌝ }
+    ensures { λ r. ⌜ left r (now (row .exit)) ≡ handed number (now (fields .entry)) (now (row .entry)) ⌝ }
 {
     if row.len() < fields.len() {
         return Refusal::rows().number();
@@ -19,8 +20,8 @@ fn hand(row: &mut [u64], number: u32, fields: &[u64]) -> u32
     number
 }
 
-pub fn hand_out(row: &mut [u64], number: u32, a: Answer) -> u32
-    ensures { λ r. ⌜ written r (now (row .exit)) ≡ handed number (fieldsOf a) (now (row .entry)) ⌝ }
+fn hand_out(row: &mut [u64], number: u32, a: Answer) -> u32
+    ensures { λ r. ⌜ left r (now (row .exit)) ≡ handed number (fieldsOf a) (now (row .entry)) ⌝ }
 {
     let extension = a.extension;
     let message = a.message;
@@ -70,7 +71,7 @@ pub fn hand_out(row: &mut [u64], number: u32, a: Answer) -> u32
 
 // The fields of what was taken or set aside, written over the front of the row; 10 where they do not fit.
 pub fn write(row: &mut [u64], a: Answer) -> u32
-    ensures { λ r. ⌜ written r (now (row .exit)) ≡ wrote a (now (row .entry)) ⌝ }
+    ensures { λ r. ⌜ left r (now (row .exit)) ≡ wroteFields a (now (row .entry)) ⌝ }
 {
     let outcome = a.outcome;
     let number = outcome.number();

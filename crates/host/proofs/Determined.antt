@@ -1,15 +1,14 @@
 -- Each entry's contract determines its answer, the slots that it hands back, and what it was lent as it leaves it.
 -- Assumes nothing.
 use Prim.Native.Nat.{ℕ}
-use mathlib.Core.Path.{sym, ap, _∙_}
+use mathlib.Core.Path.{sym, _∙_}
 use mathlib.Core.List.{List}
 use contract.Lifetimes.{Lfts}
 use denote.Ref.{now}
 use denote.Triple.Clauses.{AtExit}
 use borrow.Fn.Kinds.{endedOf}
 use Rattle.bits.proofs.Determined.{Determines, DeterminesAll}
-use Rattle.handing.specs.Handing.{Written}
-use Rattle.host.specs.Slot.{Outcome}
+use Rattle.lent.proofs.Stores.{same-left}
 use Rattle.host.proofs.bruskelde_read.Kinds as read-kinds
 use Rattle.host.proofs.bruskelde_read.Reads as read-reads
 use Rattle.host.proofs.bruskelde_fields.Kinds as fields-kinds
@@ -39,7 +38,7 @@ abbrev pub row : (κs : Lfts 2) → AtExit (endedOf 2 fields-kinds.ps fields-kin
 row κs s = now (s .1 .1 .1 .0)
 
 pub fields-determined : DeterminesAll 2 fields-kinds.ps fields-kinds.r row fields-reads.Post
-fields-determined κs a x y s t p q = let e = p ∙ sym q in (ap (λ (o : Written). o .number) e, ap (λ (o : Written). o .row) e)
+fields-determined κs a x y s t p q = same-left (p ∙ sym q)
 
 pub part-determined : Determines 1 part-kinds.ps part-kinds.r part-reads.Post
 part-determined κs a x y s t p q = p ∙ sym q
@@ -67,4 +66,4 @@ abbrev pub lent : (κs : Lfts 1) → AtExit (endedOf 1 table-kinds.ps table-kind
 lent κs s = now (s .1 .1 .0)
 
 pub table-determined : DeterminesAll 1 table-kinds.ps table-kinds.r lent table-reads.Post
-table-determined κs a x y s t p q = let e = p ∙ sym q in (ap (λ (o : Outcome). o .answer) e, ap (λ (o : Outcome). o .lent) e)
+table-determined κs a x y s t p q = same-left (p ∙ sym q)

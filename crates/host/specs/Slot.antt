@@ -1,15 +1,12 @@
 -- The slot calls' answers in numbers, for a C caller: an enum's case is the number that the paper gives it.
-use Prim.Native.Nat.{ℕ}
-use mathlib.Core.List.{List}
-use Rattle.bits.specs.Refusals as refusals
 use Rattle.answers.specs.Answer.{numberOf}
 use Rattle.slots.specs.Slots.{answerNumber}
 use Rattle.slots.specs.declared.Called as slots-called
 use Rattle.slots.specs.declared.Pictured as slots-pictured
 use Rattle.feeding.specs.declared.Fed as calls-fed
-use Rattle.rows.specs.Rows as rows
+use Rattle.lent.specs.Lent.{Left, left}
+use Rattle.rows.specs.Rows.{tabledNumber, tabledRows}
 use Rattle.rows.specs.declared.Tabled as rows-tabled
-use Rattle.rows.specs.declared.Tabled.the-variants.{Rows, Refused}
 use Rattle.host.specs.declared.slot.Called.{Called}
 use Rattle.host.specs.declared.slot.Fed.{Fed}
 use Rattle.host.specs.declared.slot.Pictured.{Pictured}
@@ -26,16 +23,7 @@ picturedInNumbers p = record { number = answerNumber (p .answer); held = p .held
 
 -- 0 and how many rows, or the refusal's number and none
 abbrev pub tabledInNumbers : rows-tabled.Tabled → Tabled
-tabledInNumbers (Rows n) = record { number = 0; rows = n }
-tabledInNumbers (Refused why) = record { number = refusals.numberOf why; rows = 0 }
+tabledInNumbers t = record { number = tabledNumber t; rows = tabledRows t }
 
--- what a table call answers, and the lent numbers as it leaves them
-pub record Outcome : Type 0 where
-  pub answer : Tabled
-  pub lent : List ℕ
-
-abbrev pub outcome : Tabled → List ℕ → Outcome
-outcome r lent = record { answer = r; lent = lent }
-
-abbrev pub outcomeInNumbers : rows.Outcome → Outcome
-outcomeInNumbers o = outcome (tabledInNumbers (o .answer)) (o .lent)
+abbrev pub leftInNumbers : Left rows-tabled.Tabled → Left Tabled
+leftInNumbers o = left (tabledInNumbers (o .answer)) (o .lent)

@@ -7,7 +7,8 @@ use verdict::number;
 ghost use mathlib.Core.Path.{_≡_};
 ghost use Rattle.answers.specs.Answer.{numberOf};
 ghost use Rattle.reader.specs.Reader.{answerTo};
-ghost use Rattle.handing.specs.Handing.{written, wrote};
+ghost use Rattle.lent.specs.Lent.{left};
+ghost use Rattle.handing.specs.Handing.{wroteFields};
 ghost use Rattle.host.specs.Part.{partOf};
 
 // The number of the answer, for any kind, size and bytes.
@@ -21,7 +22,7 @@ pub extern "C" fn bruskelde_read(kind: u64, size: u64, bytes: &[u8]) -> u32
 // The same, and the fields of what was taken or set aside, written over the front of the row; 10 where they do not fit.
 #[no_mangle]
 pub extern "C" fn bruskelde_fields(kind: u64, size: u64, bytes: &[u8], row: &mut [u64]) -> u32
-    ensures { λ r. ⌜ written r (now (row .exit)) ≡ wrote (answerTo kind size (now (bytes .entry))) (now (row .entry)) ⌝ }
+    ensures { λ r. ⌜ left r (now (row .exit)) ≡ wroteFields (answerTo kind size (now (bytes .entry))) (now (row .entry)) ⌝ }
 {
     let answer = read(kind, size, bytes);
     handing::write(row, answer)

@@ -5,10 +5,11 @@ use slots::Slots;
 ghost use mathlib.Core.Path.{_≡_};
 ghost use lib.ListN.{length};
 ghost use Rattle.slots.specs.Slots.{start, opened, closed, sequenced, pictured};
+ghost use Rattle.lent.specs.Lent.{left};
 ghost use Rattle.rows.specs.Rows.{wrote};
 ghost use Rattle.feeding.specs.Feed.{fedTo};
 ghost use Rattle.tables.specs.Table.{tableIn};
-ghost use Rattle.host.specs.Slot.{inNumbers, fedInNumbers, picturedInNumbers, tabledInNumbers, outcome, outcomeInNumbers};
+ghost use Rattle.host.specs.Slot.{inNumbers, fedInNumbers, picturedInNumbers, tabledInNumbers, leftInNumbers};
 
 #[no_mangle]
 pub extern "C" fn bruskelde_start() -> Slots
@@ -128,7 +129,7 @@ impl Tabled {
 // A refusal writes nothing, and the numbers past the rows stay.
 #[no_mangle]
 pub extern "C" fn bruskelde_table(slots: Slots, slot: u64, lent: &mut [u64]) -> Tabled
-    ensures { λ r. ⌜ outcome r (now (lent .exit)) ≡ outcomeInNumbers (wrote (tableIn slots slot (length (now (lent .entry)))) (now (lent .entry))) ⌝ }
+    ensures { λ r. ⌜ left r (now (lent .exit)) ≡ leftInNumbers (wrote (tableIn slots slot (length (now (lent .entry)))) (now (lent .entry))) ⌝ }
 {
     let answer = tables::table(slots, slot, lent);
     Tabled::of(answer)

@@ -1,17 +1,15 @@
 -- The five kinds that are held, kind by kind: what a picture and a taken message leave of each, and that their answers are told apart.
 -- Assumes nothing.
-use Prim.Native.Nat.{ℕ, _≤_}
+use Prim.Native.Nat.{ℕ}
 use native.Mathlib.Omega.{arith}
 use mathlib.Core.Path.{_≡_, refl, sym, ap, _∙_}
-use mathlib.Core.Logic.{_≢_}
+use mathlib.Core.Logic.{_≢_, _⊎_, inl, inr}
 use lib.Dec.{eqb}
+use borrow.Author.Tests.{ne-eqb}
 use Rattle.answers.specs.Listed.{Record, zeros, number}
-use Rattle.answers.specs.Answer.{messageOf, made}
+use Rattle.answers.specs.Answer.{made}
 use Rattle.answers.specs.declared.kind.Kind.{Kind}
 use Rattle.answers.specs.declared.kind.Kind.the-variants as kinds
-use Rattle.answers.specs.declared.Answer.{Answer}
-use Rattle.answers.specs.declared.Message.{Message}
-use Rattle.answers.specs.declared.Message.the-variants as message
 use Rattle.answers.specs.declared.Outcome.the-variants.{Taken}
 use Rattle.format.specs.Syntax.{if_then_else_}
 use Rattle.held.specs.Held.{
@@ -44,8 +42,8 @@ use Rattle.held.specs.declared.HeldEquirectangular.{HeldEquirectangular}
 use Rattle.held.specs.declared.HeldRotation.{HeldRotation}
 use Rattle.held.specs.declared.HeldPacking.{HeldPacking}
 use Rattle.held.specs.declared.Held.{Held}
-use Rattle.feeding.specs.Feed.{heldAfter}
-use Rattle.feeding.proofs.FeedLaws.{if-ap, Unheld, alpha, depth, registered, unregistered}
+use Rattle.feeding.specs.Feed.{Unheld, alpha, depth, registered, unregistered, heldAfter}
+use Rattle.feeding.proofs.FeedLaws.{if-ap}
 use Rattle.isolation.specs.Lasting.{Lasting, framePacking, orientation, equirectangular, rotation, regionWise, kindOf, cancelOf, persistenceOf, Marked, heldOf}
 
 -- ---- what is held of each
@@ -94,99 +92,74 @@ taken-of equirectangular h a e = if-ap marked150 (eqb (a .cancel) 0) (record { o
 taken-of rotation h a e = if-ap marked154 (eqb (a .cancel) 0) (record { on = 1; value = a }) noRotation
 taken-of regionWise h a e = if-ap marked155 (eqb (a .cancel) 0) (record { on = 1; value = a }) noPacking
 
--- a message of one kind leaves the others
-pub other-of : (k j : Lasting) (h : Held) (a : Record (kindOf j)) (e : ℕ) → k ≢ j → heldOf k (heldAfter h (made (kindOf j) Taken a e)) ≡ heldOf k h
+-- ---- a message of one kind leaves the others
+
+-- the five, of what is held of each
+abbrev five : ((k : Lasting) → Marked (Record (kindOf k))) → Held
+five f =
+    record {
+      «frame_packing» = record { on = f framePacking .on; value = f framePacking .value };
+      orientation = record { on = f orientation .on; value = f orientation .value };
+      equirectangular = record { on = f equirectangular .on; value = f equirectangular .value };
+      rotation = record { on = f rotation .on; value = f rotation .value };
+      regions = record { on = f regionWise .on; value = f regionWise .value };
+    }
+
+of-five : (k : Lasting) (f : (k : Lasting) → Marked (Record (kindOf k))) → heldOf k (five f) ≡ f k
+of-five framePacking f = refl
+of-five orientation f = refl
+of-five equirectangular f = refl
+of-five rotation f = refl
+of-five regionWise f = refl
+
+-- what is held after it, but of its own kind what was held before
+abbrev restored : (j : Lasting) (h : Held) → Held → (k : Lasting) → Marked (Record (kindOf k))
+restored j h after k = if eqb (number (kindOf k)) (number (kindOf j)) then heldOf k h else heldOf k after
+
+-- is all that was held before
+same-five : (j : Lasting) (h : Held) (a : Record (kindOf j)) (e : ℕ) → five (restored j h (heldAfter h (made (kindOf j) Taken a e))) ≡ h
 unfolding heldAfter withFramePacking withOrientation withEquirectangular withRotation withRegions
-other-of framePacking framePacking h a e d = absurd (d refl)
-other-of framePacking orientation h a e d = refl
-other-of framePacking equirectangular h a e d = refl
-other-of framePacking rotation h a e d = refl
-other-of framePacking regionWise h a e d = refl
-other-of orientation framePacking h a e d = refl
-other-of orientation orientation h a e d = absurd (d refl)
-other-of orientation equirectangular h a e d = refl
-other-of orientation rotation h a e d = refl
-other-of orientation regionWise h a e d = refl
-other-of equirectangular framePacking h a e d = refl
-other-of equirectangular orientation h a e d = refl
-other-of equirectangular equirectangular h a e d = absurd (d refl)
-other-of equirectangular rotation h a e d = refl
-other-of equirectangular regionWise h a e d = refl
-other-of rotation framePacking h a e d = refl
-other-of rotation orientation h a e d = refl
-other-of rotation equirectangular h a e d = refl
-other-of rotation rotation h a e d = absurd (d refl)
-other-of rotation regionWise h a e d = refl
-other-of regionWise framePacking h a e d = refl
-other-of regionWise orientation h a e d = refl
-other-of regionWise equirectangular h a e d = refl
-other-of regionWise rotation h a e d = refl
-other-of regionWise regionWise h a e d = absurd (d refl)
+same-five framePacking h a e = refl
+same-five orientation h a e = refl
+same-five equirectangular h a e = refl
+same-five rotation h a e = refl
+same-five regionWise h a e = refl
 
--- ---- an answer has one kind, and one record
+pub other-of : (k j : Lasting) (h : Held) (a : Record (kindOf j)) (e : ℕ) → number (kindOf k) ≢ number (kindOf j)
+    → heldOf k (heldAfter h (made (kindOf j) Taken a e)) ≡ heldOf k h
+other-of k j h a e d =
+    let after = heldAfter h (made (kindOf j) Taken a e) in
+    let other : restored j h after k ≡ heldOf k after = rw (ne-eqb (number (kindOf k)) (number (kindOf j)) d) in
+    sym other ∙ sym (of-five k (restored j h after)) ∙ ap (heldOf k) (same-five j h a e)
 
-abbrev tag : Message → ℕ
-tag message.Nothing = 0
-tag (message.FramePacking a) = 45
-tag (message.Orientation a) = 47
-tag (message.Equirectangular a) = 150
-tag (message.Rotation a) = 154
-tag message.RegionWise = 155
-tag (message.Alpha a) = 165
-tag message.Depth = 177
-tag (message.Registered a) = 4
-tag message.Unregistered = 5
-
-tag-of : (k : Kind) (a : Record k) → tag (messageOf k a) ≡ number k
-tag-of kinds.FramePacking a = refl
-tag-of kinds.Orientation a = refl
-tag-of kinds.Equirectangular a = refl
-tag-of kinds.Rotation a = refl
-tag-of kinds.RegionWise a = refl
-tag-of kinds.Alpha a = refl
-tag-of kinds.Depth a = refl
-tag-of kinds.Registered a = refl
-tag-of kinds.Unregistered a = refl
-
-pub same-number : (k j : Kind) (a : Record k) (b : Record j) (e f : ℕ) → made k Taken a e ≡ made j Taken b f → number k ≡ number j
-same-number k j a b e f h = sym (tag-of k a) ∙ ap (λ (x : Answer). tag (x .message)) h ∙ tag-of j b
-
--- numbers tell the five apart ..
-abbrev numbered : ℕ → Lasting
+-- ---- numbers tell the five apart, and from the four that are not held
+abbrev numbered : ℕ → Unit {0} ⊎ Lasting
 numbered n =
-    if eqb n 45 then framePacking
-    else if eqb n 47 then orientation
-    else if eqb n 150 then equirectangular
-    else if eqb n 154 then rotation
-    else regionWise
+    if eqb n 45 then inr framePacking
+    else if eqb n 47 then inr orientation
+    else if eqb n 150 then inr equirectangular
+    else if eqb n 154 then inr rotation
+    else if eqb n 155 then inr regionWise
+    else inl tt
 
-numbered-of : (k : Lasting) → numbered (number (kindOf k)) ≡ k
+numbered-of : (k : Lasting) → numbered (number (kindOf k)) ≡ inr k
 numbered-of framePacking = refl
 numbered-of orientation = refl
 numbered-of equirectangular = refl
 numbered-of rotation = refl
 numbered-of regionWise = refl
 
-pub same-kind : (k j : Lasting) → number (kindOf k) ≡ number (kindOf j) → k ≡ j
-same-kind k j e = sym (numbered-of k) ∙ ap numbered e ∙ numbered-of j
+unnumbered : (j : Kind) → Unheld j → numbered (number j) ≡ inl tt
+unnumbered j alpha = refl
+unnumbered j depth = refl
+unnumbered j registered = refl
+unnumbered j unregistered = refl
 
--- .. and from the four that are not held
-among : (k : Lasting) → (45 ≤ number (kindOf k)) × (number (kindOf k) ≤ 155)
-among framePacking = (omega arith, omega arith)
-among orientation = (omega arith, omega arith)
-among equirectangular = (omega arith, omega arith)
-among rotation = (omega arith, omega arith)
-among regionWise = (omega arith, omega arith)
+pub same-kind : (k j : Lasting) → number (kindOf k) ≡ number (kindOf j) → k ≡ j
+same-kind k j e = let q = sym (numbered-of k) ∙ ap numbered e ∙ numbered-of j in cc
 
 pub unheld-apart : (j : Kind) → Unheld j → (k : Lasting) → number j ≢ number (kindOf k)
-unheld-apart j alpha k e = omega (arith, among k .1)
-unheld-apart j depth k e = omega (arith, among k .1)
-unheld-apart j registered k e = omega (arith, among k .0)
-unheld-apart j unregistered k e = omega (arith, among k .0)
-
-pub same-value : (k : Lasting) (a b : Record (kindOf k)) (e f : ℕ) → made (kindOf k) Taken a e ≡ made (kindOf k) Taken b f → a ≡ b
-same-value framePacking a b e f h = let m : message.FramePacking a ≡ message.FramePacking b = ap (λ (x : Answer). x .message) h in cc
-same-value orientation a b e f h = let m : message.Orientation a ≡ message.Orientation b = ap (λ (x : Answer). x .message) h in cc
-same-value equirectangular a b e f h = let m : message.Equirectangular a ≡ message.Equirectangular b = ap (λ (x : Answer). x .message) h in cc
-same-value rotation a b e f h = let m : message.Rotation a ≡ message.Rotation b = ap (λ (x : Answer). x .message) h in cc
-same-value regionWise a b e f h = ap (λ (x : Answer). x .regions) h
+unheld-apart j u k e =
+    let q = sym (unnumbered j u) ∙ ap numbered e ∙ numbered-of k in
+    let z : _≡_ {A = ℕ} 0 1 = cc in
+    omega arith

@@ -1,85 +1,34 @@
--- Every record that a slot holds is a message by its kind's table, and no cancel; of kind 155 it has from 1 to `most` regions.
+-- Every record that calls leave in a slot that held nothing is a message by its kind's table, and no cancel; of kind 155 it has a count that a
+-- table can be made of.
 -- Assumes nothing.
-use Prim.Native.Nat.{ℕ, _≤_, _<_}
+use Prim.Native.Nat.{ℕ}
 use native.Mathlib.Omega.{arith}
-use mathlib.Core.Path.{_≡_, refl, sym, ap, _∙_, subst}
-use mathlib.Core.Logic.{_↔_}
+use mathlib.Core.Path.{_≡_, ap, subst}
 use mathlib.Core.Bool.{Bool, true, false}
 use mathlib.Core.List.{List, [], _∷_, _++_}
-use lib.ListN.{take}
-use Rattle.format.specs.Coded.{Coded}
-use Rattle.format.specs.Whole.{Reading, taken, setAside, refused as refused-reading}
-use Rattle.regions.specs.List.{most}
 use Rattle.regions.specs.declared.Packing.{Packing}
 use Rattle.regions.proofs.Kept as regions
-use Rattle.answers.specs.Listed.{Record, form, number, named, readingOf}
-use Rattle.answers.specs.Answer.{numberOf, made, answerFor}
-use Rattle.reader.specs.Reader.{sized, cut, answered, answerTo}
-use Rattle.answers.specs.declared.kind.Kind.{Kind}
-use Rattle.answers.specs.declared.kind.Kind.the-variants as kinds
-use Rattle.answers.specs.declared.kind.Named.{Named}
-use Rattle.answers.specs.declared.kind.Named.the-variants.{Listed, Unlisted}
-use Rattle.answers.specs.declared.Answer.{Answer}
+use Rattle.rows.specs.Rows.{Countable}
+use Rattle.answers.specs.Listed.{Record}
+use Rattle.answers.specs.Answer.{numberOf, made}
+use Rattle.reader.specs.Reader.{answerTo}
 use Rattle.answers.specs.declared.Outcome.the-variants.{Taken}
-use Rattle.reader.proofs.Demand2.{taken-when}
+use Rattle.reader.proofs.Demand2.{answer-0}
 use Rattle.format.specs.Syntax.{if_then_else_}
-use Rattle.slots.specs.Slots.{Eight, slotAt, isOpen, freshSlot}
+use Rattle.held.specs.Held.{nothing}
+use Rattle.slots.specs.Slots.{isOpen}
 use Rattle.slots.specs.declared.Slot.{Slot}
-use Rattle.slots.specs.declared.Slots.{Slots}
 use Rattle.feeding.specs.Feed.{shutAnswer}
 use Rattle.feeding.proofs.FeedLaws.{shut-8}
-use Rattle.isolation.specs.Runs.{Call, opens, closes, sequences, pictures, feeds, tables, Reply, read, turn, ends, after, only}
-use Rattle.isolation.specs.Lasting.{Lasting, regionWise, kindOf, cancelOf, HoldsOf, Told, history, Answers, Since}
-use Rattle.isolation.proofs.HeldKinds.{same-number, same-value}
-use Rattle.isolation.proofs.Isolation.{alone}
-use Rattle.isolation.proofs.Persistence.{Unread, unread, holds-iff}
-
--- ---- an answer of 0 comes of a message by the table
-
-named-of : (j : Kind) → named (number j) ≡ Listed j
-unfolding named
-named-of kinds.FramePacking = refl
-named-of kinds.Orientation = refl
-named-of kinds.Equirectangular = refl
-named-of kinds.Rotation = refl
-named-of kinds.RegionWise = refl
-named-of kinds.Alpha = refl
-named-of kinds.Depth = refl
-named-of kinds.Registered = refl
-named-of kinds.Unregistered = refl
-
-one-kind : (j i : Kind) → number j ≡ number i → j ≡ i
-one-kind j i e = let l : Listed j ≡ Listed i = sym (named-of j) ∙ ap named e ∙ named-of i in cc
-
--- some bits are the message a
-abbrev pub ByTable : (k : Lasting) → Record (kindOf k) → Type 0
-ByTable k a = (w : List Bool) × Coded (form (kindOf k) .table) w a
-
-module _ (k : Lasting) (a : Record (kindOf k)) (e : ℕ) where
-  at-kind : (j : Kind) (b : Record j) (f : ℕ) → made j Taken b f ≡ made (kindOf k) Taken a e → (w : List Bool) → Coded (form j .table) w b → ByTable k a
-  at-kind j b f q w d =
-      subst (λ i. (c : Record i) → made i Taken c f ≡ made (kindOf k) Taken a e → Coded (form i .table) w c → ByTable k a)
-      (sym (one-kind j (kindOf k) (same-number j (kindOf k) b a f e q)))
-      (λ c p g. (w, subst (Coded (form (kindOf k) .table) w) (same-value k c a f e p) g)) b q d
-
-  pub by-table : (kind size : ℕ) (bytes : List ℕ) → answerTo kind size bytes ≡ made (kindOf k) Taken a e → ByTable k a
-  unfolding answerTo
-  by-table kind size bytes = go (named kind)
-    where
-      of-reading : (j : Kind) (x : Reading (Record j)) → readingOf j (take size bytes) ≡ x → answerFor j x ≡ made (kindOf k) Taken a e → ByTable k a
-      of-reading j (taken b f) h q = let d = taken-when j (take size bytes) b f .0 h .0 in at-kind j b f q (d .message) (d .coded)
-      of-reading j (setAside b f) h q = absurd (omega (arith, ap numberOf q))
-      of-reading j (refused-reading r) h q = let o = ap (λ (x : Answer). x .outcome) q in let z : _≡_ {A = ℕ} 0 1 = cc in absurd (omega arith)
-
-      at-size : (j : Kind) (t : Bool) → answerFor j (cut j t size bytes) ≡ made (kindOf k) Taken a e → ByTable k a
-      at-size j true q = of-reading j (readingOf j (take size bytes)) refl q
-      at-size j false q = absurd (omega (arith, ap numberOf q))
-
-      go : (x : Named) → answered x size bytes ≡ made (kindOf k) Taken a e → ByTable k a
-      go Unlisted q = absurd (omega (arith, ap numberOf q))
-      go (Listed j) q = at-size j (sized size bytes) q
+use Rattle.isolation.specs.Runs.{Call, opens, closes, sequences, pictures, feeds, tables, Reply, read, turn, ends}
+use Rattle.isolation.specs.Lasting.{Lasting, regionWise, kindOf, cancelOf, ByTable, HoldsOf, Told, history, Answers}
+use Rattle.isolation.proofs.Persistence.{Unread, unread, holds-when}
 
 -- ---- a reply that says so
+
+-- an answer of 0 comes of a message by the table
+by-table : (k : Lasting) (a : Record (kindOf k)) (e kind size : ℕ) (bytes : List ℕ) → answerTo kind size bytes ≡ made (kindOf k) Taken a e → ByTable k a
+by-table k a e kind size bytes h = let d = answer-0 kind size bytes (kindOf k) a e .0 h .1 in (d .message, d .coded)
 
 module _ (k : Lasting) (a : Record (kindOf k)) where
   abbrev Answering : Slot × Reply → Type 0
@@ -117,20 +66,15 @@ module _ (k : Lasting) (a : Record (kindOf k)) where
       let r : history (turn x c .0) cs ≡ bs ++ t ∷ later = cc in
       told-table cs (turn x c .0) bs t later r w
 
-  -- ---- what is held from the opening on
+-- ---- what a slot holds after calls, where it held nothing before them
 
-  pub held-table : (cs : List Call) → HoldsOf k a (ends freshSlot cs) → ByTable k a × (cancelOf k a ≡ 0)
-  held-table cs q =
-      let s = holds-iff k a cs .0 q in
-      (told-table cs freshSlot (s .before) (s .feed) (s .later) (s .split) (s .gives .answers), s .gives .stays)
+pub alone-table : (k : Lasting) (a : Record (kindOf k)) (x : Slot) → x .held ≡ nothing → (cs : List Call)
+    → HoldsOf k a (ends x cs) → ByTable k a × (cancelOf k a ≡ 0)
+alone-table k a x e cs q =
+    let s = holds-when k a x e cs .0 q in
+    (told-table k a cs x (s .before) (s .feed) (s .later) (s .split) (s .gives .answers), s .gives .stays)
 
-  -- the same of one of the eight, in any run
-  pub holds-in-run : (n : ℕ) → n < 8 → (s : Slots) → Eight s → (cs xs : List Call) → only n cs ≡ opens n ∷ xs
-      → HoldsOf k a (slotAt (after s cs) n) ↔ Since k a (history freshSlot xs)
-  holds-in-run n h s e cs xs p = rw (alone n h s e cs xs p .1) (holds-iff k a xs)
-
-pub held-countable : (p : Packing) (cs : List Call) → HoldsOf regionWise p (ends freshSlot cs) → (1 ≤ p .count) × (p .count ≤ most)
-held-countable p cs q =
-    let d = held-table regionWise p cs q in
-    let t = regions.kept (d .0 .0) p (d .0 .1) in
-    (t .some (d .1), t .few)
+pub table-countable : (p : Packing) → ByTable regionWise p → cancelOf regionWise p ≡ 0 → Countable p
+table-countable p d z =
+    let t = regions.kept (d .0) p (d .1) in
+    record { some = t .some z; few = t .few }

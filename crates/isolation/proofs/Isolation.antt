@@ -34,27 +34,27 @@ one-more k s c cs e h ih false q =
     let x = but-for s c .others k (λ p. eqb-false (slotOf c) k q (sym p)) in
     (rw (ih .0, x), rw (ih .1, x))
 
-pub factors : (k : ℕ) → k < 8 → (cs : List Call) (s : Slots) → Eight s → Factors k s cs
+pub factors : (k : ℕ) → k < 8 → (cs : List Call) (s : Slots) → Eight s
+    → (repliesAt k s cs ≡ replies (slotAt s k) (only k cs)) × (slotAt (after s cs) k ≡ ends (slotAt s k) (only k cs))
 factors k h [] s e = (refl, refl)
 factors k h (c ∷ cs) s e = one-more k s c cs e h (factors k h cs (step s c .0) (but-for s c .eight e)) (eqb (slotOf c) k) refl
 
 -- ---- demand 3
 
-module _ (k : ℕ) (h : k < 8) where
-  -- after its opening a slot answers and holds what a fresh slot alone does: nothing that came before can be seen, and nothing beside it
-  pub alone : (s : Slots) → Eight s → (cs xs : List Call) → only k cs ≡ opens k ∷ xs
-      → (repliesAt k s cs ≡ said Done ∷ replies freshSlot xs) × (slotAt (after s cs) k ≡ ends freshSlot xs)
-  alone s e cs xs p = rw p at (factors k h cs s e)
+-- after its opening a slot answers and holds what a fresh slot alone does: nothing that came before can be seen, and nothing beside it
+pub alone : (k : ℕ) → k < 8 → (s : Slots) → Eight s → (cs xs : List Call) → only k cs ≡ opens k ∷ xs
+    → (repliesAt k s cs ≡ said Done ∷ replies freshSlot xs) × (slotAt (after s cs) k ≡ ends freshSlot xs)
+alone k h s e cs xs p = rw p at (factors k h cs s e)
 
-  -- From any two values of the eight slots, with any calls on other slots in between: runs whose calls on slot k begin by opening it and
-  -- are then pairs.
-  pub isolated : (s t : Slots) → Eight s → Eight t → (cs ds xs ys : List Call)
-      → only k cs ≡ opens k ∷ xs → only k ds ≡ opens k ∷ ys → Pairs xs ys → Isolated k s t cs ds xs
-  isolated s t e f cs ds xs ys p q l =
-      let a = alone s e cs xs p in
-      let b = alone t f ds ys q in
-      let r = like-run l freshSlot in
-      record { answered = rw (a .0, b .0, r .0); left = a .1 ∙ r .1 ∙ sym (b .1); alone = a .0; stands = a .1 }
+-- From any two values of the eight slots, with any calls on other slots in between: runs whose calls on slot k begin by opening it and
+-- are then pairs.
+pub isolated : (k : ℕ) → k < 8 → (s t : Slots) → Eight s → Eight t → (cs ds xs ys : List Call)
+    → only k cs ≡ opens k ∷ xs → only k ds ≡ opens k ∷ ys → Pairs xs ys → Isolated k s t cs ds xs
+isolated k h s t e f cs ds xs ys p q l =
+    let a = alone k h s e cs xs p in
+    let b = alone k h t f ds ys q in
+    let r = like-run l freshSlot in
+    record { answered = rw (a .0, b .0, r .0); left = a .1 ∙ r .1 ∙ sym (b .1); alone = a .0; stands = a .1 }
 
 -- there are eight slots after any run
 pub eight-after : (cs : List Call) (s : Slots) → Eight s → Eight (after s cs)

@@ -1,8 +1,10 @@
+-- The theorems of this crate, beside the proofs of its functions.
 pub mod OneCall
 pub mod PairLaws
 pub mod Isolation
 pub mod HeldKinds
 pub mod Persistence
 pub mod HeldMessages
+pub mod Reachable
 pub mod Tied
 mod Examples

@@ -7,14 +7,13 @@ use borrow.Author.Tests.{lt-ltb}
 use Rattle.bits.specs.declared.refusal.Refusal.{Refusal}
 use Rattle.format.specs.Syntax.{if_then_else_}
 use Rattle.held.specs.Held.{nothing}
-use Rattle.slots.specs.Slots.{Eight, slotAt, isOpen, freshSlot, closedSlot, replaced, opened, pictured}
+use Rattle.slots.specs.Slots.{Eight, slotAt, isOpen, freshSlot, closedSlot, ButFor, replaced, opened, pictured}
 use Rattle.slots.specs.declared.Answer.{Answer}
 use Rattle.slots.specs.declared.Answer.the-variants.{Done, Refused}
 use Rattle.held.specs.declared.Held.{Held}
 use Rattle.slots.specs.declared.Slot.{Slot}
 use Rattle.slots.specs.declared.Slots.{Slots}
 use Rattle.slots.proofs.Laws as laws
-use Rattle.slots.proofs.Laws.{ButFor}
 use Rattle.tables.specs.Table.{tableIn}
 use Rattle.feeding.proofs.FeedLaws.{if-ap, fed-answer, fed-there, fed-but-for, fed-untaken}
 use Rattle.isolation.specs.Runs.{Call, opens, closes, sequences, pictures, feeds, tables, slotOf, Reply, said, shown, read, step, refused, turn, Unchanging}
@@ -38,25 +37,26 @@ module _ (s : Slots) where
   picture-reply : (n : ℕ) → shown (pictured s n .answer) (pictured s n .held) ≡ (if isOpen (slotAt s n) then shown Done (slotAt s n .held) else shown refused nothing)
   picture-reply n = rw (laws.pictured-is s n, laws.replaced-answer s n (laws.after s n)) (shown-if (isOpen (slotAt s n)) (slotAt s n .held))
 
-  pub own : (c : Call) → Eight s → slotOf c < 8 → _≡_ {A = Slot × Reply} (slotAt (step s c .0) (slotOf c), step s c .1) (turn (slotAt s (slotOf c)) c)
-  unfolding tableIn
-  own (opens n) e h = rw (laws.opened-fresh s n e h, laws.opened-answer s n, lt-ltb n 8 h)
-  own (closes n) e h = replaced-own n closedSlot e
-  own (sequences n) e h = replaced-own n freshSlot e
-  own (pictures n) e h = both-if (isOpen (slotAt s n)) _ _ _ _ _ _ (laws.pictured-there s n e) (picture-reply n)
-  own (feeds n kind size bytes) e h =
-      both-if (isOpen (slotAt s n)) _ _ _ _ _ _ (fed-there s n kind size bytes e)
-      (ap read (fed-answer s n kind size bytes) ∙ if-ap read (isOpen (slotAt s n)) _ _)
-  own (tables n lent) e h = refl
+pub own : (s : Slots) (c : Call) → Eight s → slotOf c < 8
+    → _≡_ {A = Slot × Reply} (slotAt (step s c .0) (slotOf c), step s c .1) (turn (slotAt s (slotOf c)) c)
+unfolding tableIn
+own s (opens n) e h = rw (laws.opened-fresh s n e h, laws.opened-answer s n, lt-ltb n 8 h)
+own s (closes n) e h = replaced-own s n closedSlot e
+own s (sequences n) e h = replaced-own s n freshSlot e
+own s (pictures n) e h = both-if (isOpen (slotAt s n)) _ _ _ _ _ _ (laws.pictured-there s n e) (picture-reply s n)
+own s (feeds n kind size bytes) e h =
+    both-if (isOpen (slotAt s n)) _ _ _ _ _ _ (fed-there s n kind size bytes e)
+    (ap read (fed-answer s n kind size bytes) ∙ if-ap read (isOpen (slotAt s n)) _ _)
+own s (tables n lent) e h = refl
 
-  -- a call on one slot changes no other
-  pub but-for : (c : Call) → ButFor (slotOf c) s (step s c .0)
-  but-for (opens n) = laws.opened-but-for s n
-  but-for (closes n) = laws.replaced-but-for s n closedSlot
-  but-for (sequences n) = laws.replaced-but-for s n freshSlot
-  but-for (pictures n) = laws.pictured-but-for s n
-  but-for (feeds n kind size bytes) = fed-but-for s n kind size bytes
-  but-for (tables n lent) = record { eight = λ e. e; others = λ m d. refl }
+-- a call on one slot changes no other
+pub but-for : (s : Slots) (c : Call) → ButFor (slotOf c) s (step s c .0)
+but-for s (opens n) = laws.opened-but-for s n
+but-for s (closes n) = laws.replaced-but-for s n closedSlot
+but-for s (sequences n) = laws.replaced-but-for s n freshSlot
+but-for s (pictures n) = laws.pictured-but-for s n
+but-for s (feeds n kind size bytes) = fed-but-for s n kind size bytes
+but-for s (tables n lent) = record { eight = λ e. e; others = λ m d. refl }
 
 -- ---- a call that is refused or set aside
 

@@ -1,27 +1,24 @@
 -- Calls that make a pair leave a slot the same and, but for the extension's length, are answered the same.
 -- Assumes nothing.
-use Prim.Native.Nat.{ℕ, _≤_}
-use native.Mathlib.Omega.{arith}
+use Prim.Native.Nat.{ℕ}
 use mathlib.Core.Path.{_≡_, refl, sym, ap, _∙_, subst}
 use mathlib.Core.Logic.{_↔_, _⊎_, inl, inr}
 use mathlib.Core.Bool.{Bool, true, false}
 use mathlib.Core.List.{List, _++_}
-use lib.ListN.{length, take}
+use lib.ListN.{take}
 use Rattle.bits.specs.Refusals.{bySlot}
 use Rattle.bits.specs.Bits.{bitsOf}
-use Rattle.format.specs.Whole.{Reading, taken, setAside, refused, given, whole, Follows}
+use Rattle.format.specs.Whole.{given, whole, Follows, Holds}
 use Rattle.format.proofs.Whole.{whole-holds, varied-whole}
 use Rattle.rows.specs.Rows.{refuses}
-use Rattle.answers.specs.Listed.{Record, form, named, readingOf}
+use Rattle.answers.specs.Listed.{Record, form, number, readingOf}
 use Rattle.answers.specs.Answer.{numberOf, answerFor}
-use Rattle.reader.specs.Reader.{answerTo}
+use Rattle.reader.specs.Reader.{answerTo, Within}
 use Rattle.answers.specs.declared.kind.Kind.{Kind}
 use Rattle.answers.specs.declared.Answer.{Answer}
-use Rattle.answers.specs.declared.kind.Named.the-variants.{Listed}
-use Rattle.reader.proofs.Demand2.{taken-when, aside-when}
-use Rattle.reader.proofs.Numbers as numbers
-use Rattle.reader.proofs.Numbers.{numberIn, call, number-0, number-20}
-use Rattle.reader.proofs.Order.{to-payload}
+use Rattle.answers.proofs.KindLaws.{one-kind}
+use Rattle.reader.proofs.Calls.{to-payload}
+use Rattle.reader.proofs.Demand2.{number-0, number-20, answer-0, answer-20}
 use Rattle.reader.proofs.Local.{local}
 use Rattle.format.specs.Syntax.{if_then_else_}
 use Rattle.slots.specs.Slots.{isOpen, holding}
@@ -30,48 +27,33 @@ use Rattle.slots.specs.declared.Slot.{Slot}
 use Rattle.feeding.specs.Feed.{heldAfter, shutAnswer}
 use Rattle.tables.specs.Table.{tableOfHeld}
 use Rattle.isolation.specs.Runs.{Call, Reply, read, tabled, turn, ends, replies, unextended, blind, blinds}
-use Rattle.isolation.specs.Pairs.{Message, Varied, Pair, same, cut, varied, lent, Pairs, end, both}
+use Rattle.isolation.specs.Pairs.{IsMessage, VariedPayload, Pair, same, cut, varied, lent, Pairs, end, both}
 
 -- ---- which payloads vary: exactly those answered 0 or 20
 
-number-in : (k : Kind) (x : Reading (Record k)) → numberOf (answerFor k x) ≡ numberIn x
-number-in k (taken a e) = refl
-number-in k (setAside a e) = refl
-number-in k (refused r) = refl
+pub vary-iff : (kind size : ℕ) (bytes : List ℕ) (k : Kind) → kind ≡ number k
+    → ((numberOf (answerTo kind size bytes) ≡ 0) ⊎ (numberOf (answerTo kind size bytes) ≡ 20)) ↔ IsMessage k size bytes
+vary-iff kind size bytes k listed = (to, λ d. back d (form k .aside (d .value)) refl)
+  where
+    message : (j : Kind) (a : Record j) (e : ℕ) → Within j kind size bytes → Holds (form j) (bitsOf (take size bytes)) a e → IsMessage k size bytes
+    message j a e w d =
+        subst (λ i. IsMessage i size bytes) (one-kind j k (sym (w .0) ∙ listed))
+        (record { limit = w .1; long = w .2; value = a; extension = e; holds = d })
 
-module _ (kind size : ℕ) (bytes : List ℕ) (k : Kind) (listed : named kind ≡ Listed k) where
-  abbrev number : ℕ
-  number = numberOf (answerTo kind size bytes)
+    to : (numberOf (answerTo kind size bytes) ≡ 0) ⊎ (numberOf (answerTo kind size bytes) ≡ 20) → IsMessage k size bytes
+    to (inl z) =
+        let r = number-0 kind size bytes .0 z in
+        let d = answer-0 kind size bytes (r .0) (r .1) (r .2) .0 (r .3) in
+        message (r .0) (r .1) (r .2) (d .0) (d .1)
+    to (inr z) =
+        let r = number-20 kind size bytes .0 z in
+        let d = answer-20 kind size bytes (r .0) (r .1) (r .2) .0 (r .3) in
+        message (r .0) (r .1) (r .2) (d .0) (d .1)
 
-  within : size ≤ 8192 → size ≤ length bytes → number ≡ numberIn (readingOf k (take size bytes))
-  within b c = ap numberOf (to-payload kind size bytes k listed b c) ∙ number-in k (readingOf k (take size bytes))
-
-  message-of : size ≤ 8192 → size ≤ length bytes → (number ≡ 0) ⊎ (number ≡ 20) → Message k size bytes
-  message-of b c (inl z) =
-      let r = number-0 (readingOf k (take size bytes)) .0 (sym (within b c) ∙ z) in
-      record { limit = b; long = c; value = r .0; extension = r .1; holds = taken-when k (take size bytes) (r .0) (r .1) .0 (r .2) .0 }
-  message-of b c (inr z) =
-      let r = number-20 (readingOf k (take size bytes)) .0 (sym (within b c) ∙ z) in
-      record { limit = b; long = c; value = r .0; extension = r .1; holds = aside-when k (take size bytes) (r .0) (r .1) .0 (r .2) .0 }
-
-  pub vary-iff : ((number ≡ 0) ⊎ (number ≡ 20)) ↔ Message k size bytes
-  vary-iff = (λ z. to z (call kind size bytes), back)
-    where
-      not-either : {i : ℕ} → number ≡ i → 1 ≤ i → i ≤ 2 → (number ≡ 0) ⊎ (number ≡ 20) → ⊥
-      not-either e l m (inl z) = omega arith
-      not-either e l m (inr z) = omega arith
-
-      to : (number ≡ 0) ⊎ (number ≡ 20) → numbers.Call kind size bytes → Message k size bytes
-      to z (numbers.unlisted e m) = absurd (not-either m (omega arith) (omega arith) z)
-      to z (numbers.oversized j e c m) = absurd (not-either m (omega arith) (omega arith) z)
-      to z (numbers.payload j e b c m) = message-of b c z
-
-      back : Message k size bytes → (number ≡ 0) ⊎ (number ≡ 20)
-      back d = go (form k .aside (d .value)) refl
-        where
-          go : (t : Bool) → form k .aside (d .value) ≡ t → (number ≡ 0) ⊎ (number ≡ 20)
-          go true t = inr (within (d .limit) (d .long) ∙ ap numberIn (aside-when k (take size bytes) (d .value) (d .extension) .1 (d .holds, t)))
-          go false t = inl (within (d .limit) (d .long) ∙ ap numberIn (taken-when k (take size bytes) (d .value) (d .extension) .1 (d .holds, t)))
+    back : (d : IsMessage k size bytes) (t : Bool) → form k .aside (d .value) ≡ t
+        → (numberOf (answerTo kind size bytes) ≡ 0) ⊎ (numberOf (answerTo kind size bytes) ≡ 20)
+    back d true t = inr (ap numberOf (answer-20 kind size bytes k (d .value) (d .extension) .1 ((listed, d .limit, d .long), d .holds, t)))
+    back d false t = inl (ap numberOf (answer-0 kind size bytes k (d .value) (d .extension) .1 ((listed, d .limit, d .long), d .holds, t)))
 
 -- ---- the answers
 
@@ -79,15 +61,15 @@ same-but-extension : (k : Kind) (b : Bool) (a : Record k) (e e′ : ℕ) → une
 same-but-extension k true a e e′ = refl
 same-but-extension k false a e e′ = refl
 
-varied-answer : (kind size : ℕ) (bytes : List ℕ) (size′ : ℕ) (bytes′ : List ℕ) → Varied kind size bytes size′ bytes′
+varied-answer : (kind size : ℕ) (bytes : List ℕ) (size′ : ℕ) (bytes′ : List ℕ) → VariedPayload kind size bytes size′ bytes′
     → unextended (answerTo kind size bytes) ≡ unextended (answerTo kind size′ bytes′)
 unfolding readingOf
 varied-answer kind size bytes size′ bytes′ v =
-    ap unextended (to-payload kind size bytes k (v .listed) (v .first .limit) (v .first .long))
+    ap unextended (to-payload kind size bytes k (v .listed, v .first .limit, v .first .long))
     ∙ ap (λ x. unextended (answerFor k x)) (whole-holds (form k) (bitsOf (take size bytes)) (v .first .value) (v .first .extension) (v .first .holds))
     ∙ same-but-extension k (form k .aside (v .first .value)) (v .first .value) (v .first .extension) (v .extension′)
     ∙ sym
-    (ap unextended (to-payload kind size′ bytes′ k (v .listed) (v .limit′) (v .long′))
+    (ap unextended (to-payload kind size′ bytes′ k (v .listed, v .limit′, v .long′))
     ∙ ap (λ x. unextended (answerFor k x)) (ap (whole (form k)) (v .split′) ∙ again))
   where
     k : Kind

@@ -1,5 +1,4 @@
--- The persistence rules: a slot holds a record exactly where it came last of its kind and no call since has ended it; and every record
--- that is held is a message by its kind's table.
+-- The persistence rules: a slot holds a record exactly where it came last of its kind and no call since has ended it.
 -- Assumes nothing.
 use Prim.Native.Nat.{ℕ}
 use native.Mathlib.Omega.{arith}
@@ -8,15 +7,17 @@ use mathlib.Core.Logic.{_≢_, _↔_, _⊎_, inl, inr, ⊎-elim}
 use mathlib.Core.Bool.{Bool, true, false}
 use mathlib.Core.List.{List, [], _∷_, _++_}
 use lib.Dec.{eqb}
+use lib.ListN.{take}
+use Rattle.bits.specs.Refusals.{bySize}
 use borrow.Author.Tests.{eq-eqb, ne-eqb, eqb-true, eqb-false}
 use Rattle.format.specs.Whole.{Reading, taken, setAside, refused as refused-reading}
-use Rattle.answers.specs.Listed.{Record, number, named}
-use Rattle.answers.specs.Answer.{numberOf, made, answerFor, unknown}
-use Rattle.reader.specs.Reader.{sized, cut, answered, answerTo}
+use Rattle.answers.specs.Listed.{Record, number, readingOf}
+use Rattle.answers.specs.Answer.{numberOf, made, answerFor, refusedAs, unknown}
+use Rattle.reader.specs.Reader.{answerTo}
+use Rattle.answers.proofs.KindLaws.{made-kind, made-same}
+use Rattle.reader.proofs.Calls as answers
 use Rattle.answers.specs.declared.kind.Kind.{Kind}
 use Rattle.answers.specs.declared.kind.Kind.the-variants as kinds
-use Rattle.answers.specs.declared.kind.Named.{Named}
-use Rattle.answers.specs.declared.kind.Named.the-variants.{Listed, Unlisted}
 use Rattle.answers.specs.declared.Answer.{Answer}
 use Rattle.answers.specs.declared.Outcome.the-variants.{Taken}
 use Rattle.format.specs.Syntax.{if_then_else_}
@@ -25,12 +26,12 @@ use Rattle.slots.specs.Slots.{isOpen, holding, freshSlot, closedSlot}
 use Rattle.held.specs.declared.Held.{Held}
 use Rattle.slots.specs.declared.Slot.{Slot}
 use Rattle.slots.specs.declared.Answer.the-variants.{Done}
-use Rattle.slots.proofs.Laws.{fresh-open, fresh-holds, closed-holds, holding-open, holding-holds}
-use Rattle.feeding.specs.Feed.{heldAfter, shutAnswer}
-use Rattle.feeding.proofs.FeedLaws.{untaken-keeps, Unheld, alpha, depth, registered, unregistered, unheld-keeps, shut-8}
+use Rattle.slots.proofs.Laws.{apart, fresh-open, fresh-holds, closed-holds, holding-open, holding-holds}
+use Rattle.feeding.specs.Feed.{Unheld, alpha, depth, registered, unregistered, heldAfter, shutAnswer}
+use Rattle.feeding.proofs.FeedLaws.{untaken-keeps, unheld-keeps, shut-8}
 use Rattle.isolation.specs.Runs.{Call, opens, closes, sequences, pictures, feeds, tables, Reply, said, shown, read, tabled, refused, turn, ends}
 use Rattle.isolation.specs.Lasting.{Lasting, framePacking, orientation, equirectangular, rotation, regionWise, kindOf, cancelOf, persistenceOf, Marked, heldOf, HoldsOf, Told, history, Answers, Gives, Leaves, Leave, Since}
-use Rattle.isolation.proofs.HeldKinds.{none, nothing-of, kept-of, taken-of, other-of, same-number, same-kind, unheld-apart, same-value}
+use Rattle.isolation.proofs.HeldKinds.{none, nothing-of, kept-of, taken-of, other-of, same-kind, unheld-apart}
 
 -- ---- what an answer says of the five kinds
 
@@ -44,7 +45,7 @@ untaken-came x d = passed (λ h. untaken-keeps h x d) (λ k b e q. d (ap (λ (y 
 
 unheld-came : (j : Kind) → Unheld j → (b : Record j) (e : ℕ) → Came (answerFor j (taken b e))
 unheld-came j u b e =
-    passed (λ h. unheld-keeps h j (taken b e) u) (λ k c f q. unheld-apart j u k (same-number j (kindOf k) b c e f q))
+    passed (λ h. unheld-keeps h j (taken b e) u) (λ k c f q. unheld-apart j u k (ap number (made-kind j (kindOf k) Taken Taken b c e f q)))
 
 reading-came : (j : Kind) (x : Reading (Record j)) → Came (answerFor j x)
 reading-came j (setAside b e) = untaken-came _ (λ q. let z : _≡_ {A = ℕ} 0 1 = cc in omega arith)
@@ -60,26 +61,23 @@ reading-came kinds.Registered (taken b e) = unheld-came kinds.Registered registe
 reading-came kinds.Unregistered (taken b e) = unheld-came kinds.Unregistered unregistered b e
 
 came : (kind size : ℕ) (bytes : List ℕ) → Came (answerTo kind size bytes)
-unfolding answerTo
-came kind size bytes = go (named kind)
+came kind size bytes = go (answers.call kind size bytes)
   where
-    go : (x : Named) → Came (answered x size bytes)
-    go Unlisted = untaken-came unknown (λ q. let z : _≡_ {A = ℕ} 0 1 = cc in omega arith)
-    go (Listed j) = reading-came j (cut j (sized size bytes) size bytes)
+    go : answers.Call kind size bytes → Came (answerTo kind size bytes)
+    go (answers.unlisted f m) = subst Came (sym m) (untaken-came unknown (λ q. let z : _≡_ {A = ℕ} 0 1 = cc in omega arith))
+    go (answers.oversized j f o m) = subst Came (sym m) (untaken-came (refusedAs j bySize) (λ q. let z : _≡_ {A = ℕ} 0 1 = cc in omega arith))
+    go (answers.payload j w m) = subst Came (sym m) (reading-came j (readingOf j (take size bytes)))
 
 -- ---- a closed slot holds nothing, from the fresh one on
 
 abbrev Bare : Slot → Type 0
 Bare x = isOpen x ≡ false → x .held ≡ nothing
 
-apart : true ≡ false → ⊥
-apart h = let z : _≡_ {A = ℕ} 0 1 = cc in omega arith
-
 fresh-bare : Bare freshSlot
-fresh-bare o = absurd (apart (sym fresh-open ∙ o))
+fresh-bare o = absurd (apart fresh-open o)
 
 holding-bare : (x : Slot) (h : Held) → isOpen x ≡ true → Bare (holding x h)
-holding-bare x h o f = absurd (apart (sym o ∙ sym (holding-open x h) ∙ f))
+holding-bare x h o f = absurd (apart (holding-open x h ∙ o) f)
 
 abbrev BareAfter : Slot × Reply → Type 0
 BareAfter w = Bare (w .0)
@@ -160,7 +158,7 @@ module _ (k : Lasting) (a : Record (kindOf k)) where
 
         back : Why → Here (heldAfter h x)
         back (inl w) =
-            let v : b ≡ a = same-value k b a e (w .0 .extension) (sym m ∙ as-made a (w .0)) in
+            let v : b ≡ a = made-same (kindOf k) Taken Taken b a e (w .0 .extension) (sym m ∙ as-made a (w .0)) .1 in
             now ∙ rw (eq-eqb (cancelOf k b) 0 (ap (cancelOf k) v ∙ w .1), v)
         back (inr w) = absurd (w .1 b (record { extension = e; is = ap read m }))
 
@@ -175,8 +173,8 @@ module _ (k : Lasting) (a : Record (kindOf k)) where
         go false q =
             let d : number (kindOf k) ≢ number (kindOf j) = eqb-false _ _ q in
             untouched
-            (ap (λ y. heldOf k (heldAfter h y)) m ∙ other-of k j h b e (λ s. d (ap (λ i. number (kindOf i)) s)))
-            (λ c f n. d (same-number (kindOf k) (kindOf j) c b f e (sym n ∙ m)))
+            (ap (λ y. heldOf k (heldAfter h y)) m ∙ other-of k j h b e d)
+            (λ c f n. d (ap number (made-kind (kindOf k) (kindOf j) Taken Taken c b f e (sym n ∙ m))))
 
   -- ---- one call on a slot
 
@@ -307,9 +305,14 @@ module _ (k : Lasting) (a : Record (kindOf k)) where
       let m = one-more x b c cs in
       (λ q. m .0 (r .0 q), λ y. r .1 (m .1 y))
 
-  -- From its opening on, a slot holds a of kind k exactly where some feed was answered 0 with a, which is no cancel, and none of the later
-  -- calls ended it.
-  pub holds-iff : (cs : List Call) → HoldsOf k a (ends freshSlot cs) ↔ Since k a (history freshSlot cs)
-  holds-iff cs =
-      let r = holds-from cs freshSlot (λ o. fresh-holds) in
-      (λ q. ⊎-elim (λ s. s) (λ w. absurd (empty (freshSlot .held) fresh-holds (w .0))) (r .0 q), λ s. r .1 (inl s))
+-- A slot that held nothing holds a of kind k exactly where some feed since was answered 0 with a, which is no cancel, and none of the later
+-- calls ended it.
+pub holds-when : (k : Lasting) (a : Record (kindOf k)) (x : Slot) → x .held ≡ nothing → (cs : List Call)
+    → HoldsOf k a (ends x cs) ↔ Since k a (history x cs)
+holds-when k a x e cs =
+    let r = holds-from k a cs x (λ o. e) in
+    (λ q. ⊎-elim (λ s. s) (λ w. absurd (empty k a (x .held) e (w .0))) (r .0 q), λ s. r .1 (inl s))
+
+-- so it is from its opening on
+pub holds-iff : (k : Lasting) (a : Record (kindOf k)) (cs : List Call) → HoldsOf k a (ends freshSlot cs) ↔ Since k a (history freshSlot cs)
+holds-iff k a cs = holds-when k a freshSlot fresh-holds cs

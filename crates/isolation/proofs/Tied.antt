@@ -7,7 +7,8 @@ use contract.Lifetimes.{Lfts}
 use denote.Ref.{now}
 use denote.Triple.Clauses.{AtExit}
 use borrow.Fn.Kinds.{Dens, endedOf}
-use Rattle.rows.specs.Rows.{Table, outcome, wrote}
+use Rattle.lent.specs.Lent.{left}
+use Rattle.rows.specs.Rows.{Table, wrote}
 use Rattle.rows.specs.declared.Tabled.{Tabled}
 use Rattle.slots.specs.declared.Called.{Called}
 use Rattle.slots.specs.declared.Pictured.{Pictured}
@@ -58,5 +59,5 @@ pub table-tied : (κs : Lfts 1) (a : Dens κs table-kinds.ps) (r : Tabled) (t : 
     → table-reads.Post κs a r t
     → (x : Table)
     × (step (a .0) (tables (a .1 .0) (now (a .1 .1 .0))) ≡ (a .0, tabled x))
-    × (outcome r (now (t .1 .1 .0)) ≡ wrote x (now (a .1 .1 .0)))
+    × (left r (now (t .1 .1 .0)) ≡ wrote x (now (a .1 .1 .0)))
 table-tied κs a r t p = (tableIn (a .0) (a .1 .0) (length (now (a .1 .1 .0))), refl, p)

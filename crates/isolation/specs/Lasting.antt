@@ -2,8 +2,10 @@
 use Prim.Native.Nat.{ℕ}
 use mathlib.Core.Path.{_≡_}
 use mathlib.Core.Logic.{_≢_}
+use mathlib.Core.Bool.{Bool}
 use mathlib.Core.List.{List, [], _∷_, _++_}
-use Rattle.answers.specs.Listed.{Record}
+use Rattle.format.specs.Coded.{Coded}
+use Rattle.answers.specs.Listed.{Record, form}
 use Rattle.answers.specs.Answer.{made}
 use Rattle.answers.specs.declared.kind.Kind.{Kind}
 use Rattle.answers.specs.declared.kind.Kind.the-variants as kinds
@@ -37,6 +39,10 @@ persistenceOf orientation a = a .persistence
 persistenceOf equirectangular a = a .persistence
 persistenceOf rotation a = a .persistence
 persistenceOf regionWise a = a .persistence
+
+-- some bits are the message a: its kind's table gives it
+abbrev pub ByTable : (k : Lasting) → Record (kindOf k) → Type 0
+ByTable k a = (w : List Bool) × Coded (form (kindOf k) .table) w a
 
 -- what is held of a kind: its mark, and its record
 pub record Marked (A : Type 0) : Type 0 where

@@ -4,20 +4,19 @@ use mathlib.Core.Path.{_≡_}
 use mathlib.Core.Bool.{Bool, true}
 use mathlib.Core.List.{List, [], _∷_, _++_}
 use lib.ListN.{length, take}
-use Rattle.bits.specs.Bits.{bitsOf}
+use Rattle.bits.specs.Bits.{mostBytes, bitsOf}
 use Rattle.format.specs.Whole.{Holds, Follows}
 use Rattle.format.specs.Varied.{Variation}
-use Rattle.answers.specs.Listed.{Record, form, named}
+use Rattle.answers.specs.Listed.{Record, form, number}
 use Rattle.answers.specs.declared.kind.Kind.{Kind}
-use Rattle.answers.specs.declared.kind.Named.the-variants.{Listed}
 use Rattle.slots.specs.Slots.{freshSlot, slotAt}
 use Rattle.slots.specs.declared.Answer.the-variants.{Done}
 use Rattle.slots.specs.declared.Slots.{Slots}
 use Rattle.isolation.specs.Runs.{Call, feeds, tables, said, after, repliesAt, ends, replies, blinds}
 
 -- Within the size limits, the payload's bits are a message of kind k and what may follow it: the payload is taken or set aside.
-pub record Message (k : Kind) (size : ℕ) (bytes : List ℕ) : Type 0 where
-  pub limit : size ≤ 8192
+pub record IsMessage (k : Kind) (size : ℕ) (bytes : List ℕ) : Type 0 where
+  pub limit : size ≤ mostBytes
   pub long : size ≤ length bytes
   pub value : Record k
   pub extension : ℕ
@@ -25,12 +24,12 @@ pub record Message (k : Kind) (size : ℕ) (bytes : List ℕ) : Type 0 where
 
 -- The first payload is a message of a kind that can have a tail. The second, of whatever size within the limits, is that message with
 -- other ignored bits and other reserved guard band codes in place of reserved ones, and then any end that is permitted.
-pub record Varied (kind size : ℕ) (bytes : List ℕ) (size′ : ℕ) (bytes′ : List ℕ) : Type 0 where
+pub record VariedPayload (kind size : ℕ) (bytes : List ℕ) (size′ : ℕ) (bytes′ : List ℕ) : Type 0 where
   pub k : Kind
-  pub listed : named kind ≡ Listed k
+  pub listed : kind ≡ number k
   pub tailed : form k .tailed ≡ true
-  pub first : Message k size bytes
-  pub limit′ : size′ ≤ 8192
+  pub first : IsMessage k size bytes
+  pub limit′ : size′ ≤ mostBytes
   pub long′ : size′ ≤ length bytes′
   pub message′ : List Bool
   pub rest′ : List Bool
@@ -44,7 +43,7 @@ pub data Pair : Call → Call → Type 0 where
   same : (c : Call) → Pair c c
   cut : (n kind size : ℕ) (bytes bytes′ : List ℕ) → size ≤ length bytes → size ≤ length bytes′ → take size bytes ≡ take size bytes′
       → Pair (feeds n kind size bytes) (feeds n kind size bytes′)
-  varied : (n kind size : ℕ) (bytes : List ℕ) (size′ : ℕ) (bytes′ : List ℕ) → Varied kind size bytes size′ bytes′
+  varied : (n kind size : ℕ) (bytes : List ℕ) (size′ : ℕ) (bytes′ : List ℕ) → VariedPayload kind size bytes size′ bytes′
       → Pair (feeds n kind size bytes) (feeds n kind size′ bytes′)
   lent : (n : ℕ) (rows rows′ : List ℕ) → length rows ≡ length rows′ → Pair (tables n rows) (tables n rows′)
 

@@ -1,8 +1,18 @@
-// Numbers written into a slice that a caller lent.
+// Slices that a caller lent: the front of one, and numbers written into one.
 ghost use mathlib.Core.Path.{_≡_};
 ghost use Prim.Native.Nat.{_+_, _≤_};
-ghost use lib.ListN.{length};
+ghost use lib.ListN.{length, take};
 ghost use lib.Seq.{sets};
+
+// The first n of the lent bytes; all of them where there are no more.
+pub fn front(bytes: &[u8], n: usize) -> &[u8]
+    ensures { λ r. ⌜ now r ≡ take n (now (bytes .entry)) ⌝ }
+{
+    if n < bytes.len() {
+        return &bytes[..n];
+    }
+    bytes
+}
 
 // The numbers `from`, at `at` and after it.
 pub fn put(lent: &mut [u64], at: usize, from: &[u64])

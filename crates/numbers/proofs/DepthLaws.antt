@@ -1,4 +1,4 @@
--- The laws of a depth number: the paper's words for the bits, and the exact number that they are read as.
+-- The laws of a depth number: the paper's words for the bits, the exact number that they are read as, and the float's own bits.
 -- Each holds of every sign, length and mantissa, and every exponent below 127. `HasValue x s a c` says that x is a finite float, negative where
 -- s is true, whose size is a / c. Assumes nothing.
 use mathlib.Core.Path.{_≡_, refl, sym, ap, _∙_, subst}
@@ -10,9 +10,9 @@ use borrow.Author.Tests.{eqb-true}
 use lib.Dec.{eqb}
 use lib.IntN.{pos}
 use lib.Pow.{pow-add, pow-pos, pow-mono}
-use lib.Ieee.{fin, binary64, ofBits}
+use lib.Ieee.{fin, binary64, ofBits, toBits}
 use lib.Ieee.Exact.{HasValue}
-use Rattle.numbers.proofs.Patterns.{Finite, shifted, scaled-by-k, scaled-finite, Is, pattern-is, scaled-is, value}
+use Rattle.numbers.proofs.Patterns.{Finite, shifted, scaled-by-k, scaled-finite, Is, pattern-is, scaled-is, value, back}
 use Rattle.numbers.specs.Floats.{pattern}
 use Rattle.numbers.specs.Depth.{DepthElement, Mantissa, depthBits, depthNumber}
 use Rattle.numbers.specs.declared.depth.DepthNumber.the-variants.{Absent, Unspecified, Number}
@@ -103,6 +103,10 @@ depth-finite s (suc e) v n m he =
       fraction-fits = shifted n v (52 - v) (m .mantissa-fits) (omega (arith, m .length-fits));
       is = refl;
     }
+
+-- the float that is read off them has those bits for its own
+pub depth-back : (s e v n : ℕ) → Mantissa s v n → e < 127 → toBits binary64 (ofBits binary64 (depthBits s e v n)) ≡ depthBits s e v n
+depth-back s e v n m he = back (depthBits s e v n) (depth-finite s e v n m he)
 
 -- ---- which elements are numbers
 

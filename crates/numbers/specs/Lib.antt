@@ -1,3 +1,4 @@
+-- What the contracts of this crate cite.
 pub mod Floats
 pub mod Degrees
 pub mod Depth

@@ -1,4 +1,4 @@
--- The payload 50 of 01: transform 2, and all of its eight bits are the message.
+-- Kind 47: a message with reserved bits, which say nothing, and a cancel. The payloads of 01 are run.
 -- Assumes nothing.
 use mathlib.Core.Path.{refl}
 use mathlib.Core.List.{[], _∷_}
@@ -9,11 +9,10 @@ use Rattle.format.specs.Format.{elementFront, run, runAt}
 use Rattle.format.proofs.Worked.{Worked, row}
 use Rattle.orientation.specs.Orientation.{orientation}
 
--- the same with other reserved bits; and a cancel, of one bit
+-- transform 2, and all of its eight bits are the message; and a cancel, of one bit
 payloads :
     Worked orientation
-    (row (0x50 ∷ []) (taken (record { cancel = 0; persistence = 1; transform = 2 }) 8)
-    ∷ row (0x57 ∷ []) (taken (record { cancel = 0; persistence = 1; transform = 2 }) 8)
+    (row (0x57 ∷ []) (taken (record { cancel = 0; persistence = 1; transform = 2 }) 8)
     ∷ row (0xc0 ∷ []) (taken (record { cancel = 1; persistence = 0; transform = 0 }) 1)
     ∷ [])
 unfolding orientation runAt run elementFront uFront from part number bitAt

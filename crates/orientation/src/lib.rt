@@ -41,7 +41,7 @@ impl OrientationRead {
     {
         match self {
             OrientationRead::Refused(why) => why,
-            OrientationRead::Taken(_, _) => Refusal::Short,
+            OrientationRead::Taken(_, _) => Refusal::unasked(),
         }
     }
 }

@@ -1,11 +1,8 @@
 -- Each public contract determines its result.
 -- Assumes nothing.
-use mathlib.Core.Path.{_≡_, sym, _∙_}
-use contract.Lifetimes.{Lfts}
-use denote.Triple.Clauses.{AtExit}
+use mathlib.Core.Path.{sym, _∙_}
 use denote.Ref.{now}
-use borrow.Fn.Kinds.{Dens, resT, endedOf}
-use Rattle.bits.proofs.Determined.{Determines}
+use Rattle.bits.proofs.Determined.{Determines, DeterminesPart}
 use Rattle.reader.proofs.payload.read.Kinds as read-kinds
 use Rattle.reader.proofs.payload.read.Reads as read-reads
 use Rattle.reader.proofs.user.Start.of.Kinds as start-of-kinds
@@ -20,9 +17,5 @@ pub start-of-determined : Determines 0 start-of-kinds.ps start-of-kinds.r start-
 start-of-determined κs a x y s t p q = p ∙ sym q
 
 -- of the part that is handed back, the bytes; where an empty one lies is not said
-pub user-part-determined :
-    (κs : Lfts 1) (a : Dens κs user-part-kinds.ps) (x y : resT user-part-kinds.r κs .Denot) (s t : AtExit (endedOf 1 user-part-kinds.ps user-part-kinds.r) κs)
-    → user-part-reads.Post κs a x s
-    → user-part-reads.Post κs a y t
-    → now x ≡ now y
+pub user-part-determined : DeterminesPart 1 user-part-kinds.ps user-part-kinds.r (λ κs x. now x) user-part-reads.Post
 user-part-determined κs a x y s t p q = p ∙ sym q

@@ -1,8 +1,7 @@
-pub mod Order
-pub mod ByEntry
+-- The theorems of this crate, beside the proofs of its functions.
+pub mod Calls
 pub mod Demand2
 pub mod Local
-pub mod Numbers
 pub mod Determined
 pub mod Payloads
 pub mod UserHeads

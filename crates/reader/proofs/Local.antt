@@ -2,29 +2,24 @@
 -- the answers are equal.
 -- Assumes nothing.
 use Prim.Native.Nat.{ℕ, _≤_}
-use mathlib.Core.Path.{_≡_, refl, ap, _∙_}
-use mathlib.Core.Bool.{Bool, true, false}
+use mathlib.Core.Path.{_≡_, sym, ap, _∙_}
+use mathlib.Core.Logic.{inl, inr}
 use mathlib.Core.List.{List}
-use borrow.Author.Tests.{le-leb}
+use native.Mathlib.Omega.{arith}
 use lib.ListN.{length, take}
-use Rattle.answers.specs.Listed.{named, readingOf}
+use Rattle.answers.specs.Listed.{readingOf}
 use Rattle.answers.specs.Answer.{answerFor}
-use Rattle.reader.specs.Reader.{sized, cut, answered, answerTo}
-use Rattle.answers.specs.declared.kind.Kind.{Kind}
-use Rattle.answers.specs.declared.kind.Named.{Named}
-use Rattle.answers.specs.declared.kind.Named.the-variants.{Listed, Unlisted}
-
-same-cut : (k : Kind) (b : Bool) (size : ℕ) (s t : List ℕ) → take size s ≡ take size t → cut k b size s ≡ cut k b size t
-same-cut k true size s t e = ap (readingOf k) e
-same-cut k false size s t e = refl
+use Rattle.reader.specs.Reader.{answerTo, Over}
+use Rattle.reader.proofs.Calls.{to-unlisted, to-oversized, to-payload, Call, unlisted, oversized, payload, call}
 
 pub local : (n size : ℕ) (s t : List ℕ) → size ≤ length s → size ≤ length t → take size s ≡ take size t → answerTo n size s ≡ answerTo n size t
-unfolding answerTo
-local n size s t h l e = go (named n)
+local n size s t h l e = go (call n size s)
   where
-    sizes : sized size s ≡ sized size t
-    sizes = rw (le-leb size (length s) h, le-leb size (length t) l)
+    over : Over size s → Over size t
+    over (inl o) = inl o
+    over (inr o) = absurd (omega arith)
 
-    go : (x : Named) → answered x size s ≡ answered x size t
-    go Unlisted = refl
-    go (Listed k) = ap (answerFor k) (ap (λ b. cut k b size s) sizes ∙ same-cut k (sized size t) size s t e)
+    go : Call n size s → answerTo n size s ≡ answerTo n size t
+    go (unlisted f m) = m ∙ sym (to-unlisted n size t f)
+    go (oversized k f o m) = m ∙ sym (to-oversized n size t k f (over o))
+    go (payload k w m) = m ∙ ap (λ x. answerFor k (readingOf k x)) e ∙ sym (to-payload n size t k (w .0, w .1, l))

@@ -18,11 +18,12 @@ use Rattle.depth_parts.specs.Element.{element, elementIf}
 use Rattle.depth_parts.specs.Model.{model}
 use Rattle.depth.specs.Depth as depths
 use Rattle.answers.specs.Listed.{named, readingOf}
+use Rattle.entry.specs.Entry.{entryTo}
 use Rattle.reader.specs.Reader.{answerTo}
-use Rattle.reader.specs.Payloads.{Held, All, end, _and_, rows}
+use Rattle.reader.specs.Payloads.{Answered, All, end, _and_, rows}
 
-pub payloads-hold : All Held rows
-unfolding rows answerTo readingOf named whole run elementFront uFront ueAfter from part number bitAt lastOne tailOf signedOf degreeBits depthBits
+pub payloads-hold : All Answered rows
+unfolding rows answerTo entryTo readingOf named whole run elementFront uFront ueAfter from part number bitAt lastOne tailOf signedOf degreeBits depthBits
     rotation angleIn framePacking arrangement sixFlags gridPositions setAside reservedId reservedType reservedInterpretation
     equirectangular guardBand alpha information flags depths.depth depths.flags depths.refView depths.values elementIf element model
 payloads-hold =

@@ -1,8 +1,8 @@
 -- Kinds 4 and 5, on any size and bytes: what is answered exactly when, and which part of the lent bytes is handed back.
 -- Assumes nothing.
 use Prim.Native.Nat.{ℕ, _-_, _≤_, _<_}
-use mathlib.Core.Path.{_≡_, refl, sym, ap, _∙_, subst}
-use mathlib.Core.Logic.{_↔_, _⊎_, inl, inr}
+use mathlib.Core.Path.{_≡_, refl, sym, ap, _∙_}
+use mathlib.Core.Logic.{_≢_, _↔_, _⊎_, inl, inr}
 use mathlib.Core.Bool.{cond}
 use mathlib.Core.List.{List, []}
 use native.Mathlib.Omega.{arith}
@@ -17,21 +17,19 @@ use Rattle.bits.specs.declared.refusal.Refusal.the-variants.{Short}
 use Rattle.bits.proofs.BitLaws.{below}
 use Rattle.format.specs.Whole.{Reading, taken, setAside, refused}
 use Rattle.user_data.specs.Registered.{headBytes}
-use Rattle.answers.specs.Listed.{Record, named, readingOf}
+use Rattle.answers.specs.Listed.{Record, number as kindNumber, readingOf}
 use Rattle.answers.specs.Answer.{outcomeNumber, numberOf, messageOf, answerFor, made, refusedAs}
-use Rattle.reader.specs.Reader.{answerTo}
+use Rattle.reader.specs.Reader.{answerTo, Over}
 use Rattle.reader.specs.User.{startIn, startFor, startOf, partFrom, userPart}
 use Rattle.answers.specs.declared.kind.Kind.{Kind}
 use Rattle.answers.specs.declared.kind.Kind.the-variants as kinds
-use Rattle.answers.specs.declared.kind.Named.{Named}
-use Rattle.answers.specs.declared.kind.Named.the-variants.{Listed, Unlisted}
 use Rattle.answers.specs.declared.Answer.{Answer}
 use Rattle.answers.specs.declared.Message.{Message}
 use Rattle.answers.specs.declared.Outcome.{Outcome}
 use Rattle.answers.specs.declared.Outcome.the-variants.{Taken, SetAside, Refused}
 use Rattle.reader.specs.declared.user.Start.{Start}
 use Rattle.reader.specs.declared.user.Start.the-variants.{At, Nowhere}
-use Rattle.reader.proofs.Order.{to-unlisted, to-large, to-long, to-payload}
+use Rattle.reader.proofs.Calls.{to-oversized, to-payload, Call, unlisted, oversized, payload, call}
 use Rattle.reader.proofs.UserHeads.{first, first-take, coded, four, five}
 use Rattle.reader.proofs.UserHeads as heads
 
@@ -103,19 +101,18 @@ inside unregistered s h = five-inside s h
 inside {k} (neither n) s h = never (sym (no-start k n (readingOf k s)) ∙ h)
 
 pub within : (n size : ℕ) (bytes : List ℕ) {a : ℕ} → startOf (answerTo n size bytes) ≡ At a → (a ≤ size) × (size ≤ length bytes)
-within n size bytes {a} h = go (named n) refl (below 8192 size) (below (length bytes) size)
+within n size bytes {a} h = go (call n size bytes)
   where
     by : {x : Answer} → answerTo n size bytes ≡ x → startOf x ≡ At a
     by e = ap startOf (sym e) ∙ h
 
-    go : (x : Named) → named n ≡ x → (8192 < size) ⊎ (size ≤ 8192) → (length bytes < size) ⊎ (size ≤ length bytes) → (a ≤ size) × (size ≤ length bytes)
-    go Unlisted e b c = never (by (to-unlisted n size bytes e))
-    go (Listed k) e (inl b) c = never (by (to-large n size bytes k e b))
-    go (Listed k) e (inr b) (inl c) = never (by (to-long n size bytes k e b c))
-    go (Listed k) e (inr b) (inr c) =
-        let i : a ≤ length (take size bytes) = inside (which k) (take size bytes) (by (to-payload n size bytes k e b c)) in
-        let l : length (take size bytes) ≡ size = length-take-le size bytes c in
-        (omega arith, c)
+    go : Call n size bytes → (a ≤ size) × (size ≤ length bytes)
+    go (unlisted f e) = never (by e)
+    go (oversized k f o e) = never (by e)
+    go (payload k w e) =
+        let i : a ≤ length (take size bytes) = inside (which k) (take size bytes) (by e) in
+        let l : length (take size bytes) ≡ size = length-take-le size bytes (w .2) in
+        (omega arith, w .2)
 
 -- ---- what has no part
 
@@ -134,35 +131,25 @@ module _ (n size : ℕ) (bytes : List ℕ) where
   part-refused h = let a = answerTo n size bytes in by-start (by-outcome (a .outcome) (a .message) h)
 
   -- .. and for every kind but 4 and 5
-  pub part-other : (k : Kind) → named n ≡ Listed k → (k ≡ kinds.Registered → ⊥) → (k ≡ kinds.Unregistered → ⊥) → userPart n size bytes ≡ []
-  part-other k e f g = go (which k) refl (below 8192 size) (below (length bytes) size)
+  pub part-other : n ≢ 4 → n ≢ 5 → userPart n size bytes ≡ []
+  part-other f g = go (call n size bytes)
     where
-      go : {l : Kind} → Which l → l ≡ k → (8192 < size) ⊎ (size ≤ 8192) → (length bytes < size) ⊎ (size ≤ length bytes) → userPart n size bytes ≡ []
-      go registered h b c = absurd (f (sym h))
-      go unregistered h b c = absurd (g (sym h))
-      go (neither m) h (inl b) c = by-start (ap startOf (to-large n size bytes k e b))
-      go (neither m) h (inr b) (inl c) = by-start (ap startOf (to-long n size bytes k e b c))
-      go {l} (neither m) h (inr b) (inr c) =
-          by-start (ap startOf (to-payload n size bytes k e b c) ∙ no-start k (subst (λ (x : Kind). (a : Record x) → startIn (messageOf x a) ≡ Nowhere) h m) (readingOf k (take size bytes)))
+      at : {k : Kind} → Which k → n ≡ kindNumber k → startOf (answerFor k (readingOf k (take size bytes))) ≡ Nowhere
+      at registered h = absurd (f h)
+      at unregistered h = absurd (g h)
+      at {k} (neither m) h = no-start k m (readingOf k (take size bytes))
+
+      go : Call n size bytes → userPart n size bytes ≡ []
+      go (unlisted h e) = by-start (ap startOf e)
+      go (oversized k h o e) = by-start (ap startOf e)
+      go (payload k w e) = by-start (ap startOf e ∙ at (which k) (w .0))
 
 -- ---- kind 4
 
-four-named : named 4 ≡ Listed kinds.Registered
-unfolding named
-four-named = refl
-
-five-named : named 5 ≡ Listed kinds.Unregistered
-unfolding named
-five-named = refl
-
 module _ (size : ℕ) (bytes : List ℕ) where
-  -- the stated size exceeds a limit, or lies within both
-  abbrev Over : Type 0
-  Over = (8192 < size) ⊎ (length bytes < size)
-
   -- the ways of a call: 2; 3 for a head that is cut; a head of one byte; a head of two
   data Call4 : Type 0 where
-    over : Over → answerTo 4 size bytes ≡ refusedAs kinds.Registered bySize → Call4
+    over : Over size bytes → answerTo 4 size bytes ≡ refusedAs kinds.Registered bySize → Call4
     cut : size ≤ 8192 → size ≤ length bytes → (size < 1) ⊎ ((first bytes ≡ 255) × (size < 2)) → answerTo 4 size bytes ≡ refusedAs kinds.Registered Short → Call4
     one : size ≤ 8192 → size ≤ length bytes → 1 ≤ size → (first bytes ≡ 255 → ⊥) → answerTo 4 size bytes ≡ made kinds.Registered Taken (coded (first bytes) 0) 0 → Call4
     two : (x : ℕ) → size ≤ 8192 → size ≤ length bytes → 2 ≤ size → first bytes ≡ 255 → answerTo 4 size bytes ≡ made kinds.Registered Taken (coded (first bytes) x) 0 → Call4
@@ -170,26 +157,26 @@ module _ (size : ℕ) (bytes : List ℕ) where
   call-4 : Call4
   call-4 = go (below 8192 size) (below (length bytes) size)
     where
-      payload : (b : size ≤ 8192) (c : size ≤ length bytes) → length (take size bytes) ≡ size → heads.Four (take size bytes) → Call4
-      payload b c l (heads.empty h e) = cut b c (inl (omega arith)) (to-payload 4 size bytes kinds.Registered four-named b c ∙ ap (answerFor kinds.Registered) e)
-      payload b c l (heads.cut g h f e) =
-          cut b c (inr (sym (first-take size bytes (omega arith) c) ∙ f, omega arith)) (to-payload 4 size bytes kinds.Registered four-named b c ∙ ap (answerFor kinds.Registered) e)
-      payload b c l (heads.one h f e) =
+      at-head : (b : size ≤ 8192) (c : size ≤ length bytes) → length (take size bytes) ≡ size → heads.Four (take size bytes) → Call4
+      at-head b c l (heads.empty h e) = cut b c (inl (omega arith)) (to-payload 4 size bytes kinds.Registered (refl, b, c) ∙ ap (answerFor kinds.Registered) e)
+      at-head b c l (heads.cut g h f e) =
+          cut b c (inr (sym (first-take size bytes (omega arith) c) ∙ f, omega arith)) (to-payload 4 size bytes kinds.Registered (refl, b, c) ∙ ap (answerFor kinds.Registered) e)
+      at-head b c l (heads.one h f e) =
           let t : first (take size bytes) ≡ first bytes = first-take size bytes (omega arith) c in
           one b c (omega arith) (λ g. f (t ∙ g))
-          (to-payload 4 size bytes kinds.Registered four-named b c ∙ ap (answerFor kinds.Registered) e ∙ ap (λ (x : ℕ). made kinds.Registered Taken (coded x 0) 0) t)
-      payload b c l (heads.two h f e) =
+          (to-payload 4 size bytes kinds.Registered (refl, b, c) ∙ ap (answerFor kinds.Registered) e ∙ ap (λ (x : ℕ). made kinds.Registered Taken (coded x 0) 0) t)
+      at-head b c l (heads.two h f e) =
           let t : first (take size bytes) ≡ first bytes = first-take size bytes (omega arith) c in
           let y = number (part (take size bytes) 8 8) in
           two y b c (omega arith) (sym t ∙ f)
-          (to-payload 4 size bytes kinds.Registered four-named b c ∙ ap (answerFor kinds.Registered) e ∙ ap (λ (x : ℕ). made kinds.Registered Taken (coded x y) 0) t)
+          (to-payload 4 size bytes kinds.Registered (refl, b, c) ∙ ap (answerFor kinds.Registered) e ∙ ap (λ (x : ℕ). made kinds.Registered Taken (coded x y) 0) t)
 
       go : (8192 < size) ⊎ (size ≤ 8192) → (length bytes < size) ⊎ (size ≤ length bytes) → Call4
-      go (inl b) c = over (inl b) (to-large 4 size bytes kinds.Registered four-named b)
-      go (inr b) (inl c) = over (inr c) (to-long 4 size bytes kinds.Registered four-named b c)
-      go (inr b) (inr c) = payload b c (length-take-le size bytes c) (four (take size bytes))
+      go (inl b) c = over (inl b) (to-oversized 4 size bytes kinds.Registered refl (inl b))
+      go (inr b) (inl c) = over (inr c) (to-oversized 4 size bytes kinds.Registered refl (inr c))
+      go (inr b) (inr c) = at-head b c (length-take-le size bytes c) (four (take size bytes))
 
-  not-over : {X : Type 0} → Over → size ≤ 8192 → size ≤ length bytes → X
+  not-over : {X : Type 0} → Over size bytes → size ≤ 8192 → size ≤ length bytes → X
   not-over (inl o) b c = absurd (omega arith)
   not-over (inr o) b c = absurd (omega arith)
 
@@ -265,21 +252,21 @@ module _ (size : ℕ) (bytes : List ℕ) where
   identified s = made kinds.Unregistered Taken (record { identifier = bytesOf 16 (number (part s 0 128)) }) 0
 
   data Call5 : Type 0 where
-    over-5 : Over → answerTo 5 size bytes ≡ refusedAs kinds.Unregistered bySize → Call5
+    over-5 : Over size bytes → answerTo 5 size bytes ≡ refusedAs kinds.Unregistered bySize → Call5
     cut-5 : size ≤ 8192 → size ≤ length bytes → size < 16 → answerTo 5 size bytes ≡ refusedAs kinds.Unregistered Short → Call5
     sixteen : size ≤ 8192 → size ≤ length bytes → 16 ≤ size → answerTo 5 size bytes ≡ identified (take size bytes) → Call5
 
   call-5 : Call5
   call-5 = go (below 8192 size) (below (length bytes) size)
     where
-      payload : (b : size ≤ 8192) (c : size ≤ length bytes) → length (take size bytes) ≡ size → heads.Five (take size bytes) → Call5
-      payload b c l (heads.short h e) = cut-5 b c (omega arith) (to-payload 5 size bytes kinds.Unregistered five-named b c ∙ ap (answerFor kinds.Unregistered) e)
-      payload b c l (heads.whole h e) = sixteen b c (omega arith) (to-payload 5 size bytes kinds.Unregistered five-named b c ∙ ap (answerFor kinds.Unregistered) e)
+      at-head : (b : size ≤ 8192) (c : size ≤ length bytes) → length (take size bytes) ≡ size → heads.Five (take size bytes) → Call5
+      at-head b c l (heads.short h e) = cut-5 b c (omega arith) (to-payload 5 size bytes kinds.Unregistered (refl, b, c) ∙ ap (answerFor kinds.Unregistered) e)
+      at-head b c l (heads.whole h e) = sixteen b c (omega arith) (to-payload 5 size bytes kinds.Unregistered (refl, b, c) ∙ ap (answerFor kinds.Unregistered) e)
 
       go : (8192 < size) ⊎ (size ≤ 8192) → (length bytes < size) ⊎ (size ≤ length bytes) → Call5
-      go (inl b) c = over-5 (inl b) (to-large 5 size bytes kinds.Unregistered five-named b)
-      go (inr b) (inl c) = over-5 (inr c) (to-long 5 size bytes kinds.Unregistered five-named b c)
-      go (inr b) (inr c) = payload b c (length-take-le size bytes c) (five (take size bytes))
+      go (inl b) c = over-5 (inl b) (to-oversized 5 size bytes kinds.Unregistered refl (inl b))
+      go (inr b) (inl c) = over-5 (inr c) (to-oversized 5 size bytes kinds.Unregistered refl (inr c))
+      go (inr b) (inr c) = at-head b c (length-take-le size bytes c) (five (take size bytes))
 
   -- 0 exactly where the size is within the limits and sixteen bytes are there
   pub taken-5 : (numberOf (answerTo 5 size bytes) ≡ 0) ↔ ((size ≤ 8192) × (size ≤ length bytes) × (16 ≤ size))

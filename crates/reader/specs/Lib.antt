@@ -1,3 +1,5 @@
+-- What the contracts of this crate cite.
 pub mod Reader
+pub mod Cases
 pub mod Payloads
 pub mod User

@@ -25,8 +25,8 @@ pub record Row : Type 0 where
   pub answer : Answer
 
 -- the answer to the row's bytes, all of them the payload, is the row's
-abbrev pub Held : Row → Type 0
-Held row = answerTo (row .kind) (length (row .bytes)) (row .bytes) ≡ row .answer
+abbrev pub Answered : Row → Type 0
+Answered row = answerTo (row .kind) (length (row .bytes)) (row .bytes) ≡ row .answer
 
 infixr 20 _and_
 pub data All {A : Type 0} (P : A → Type 0) : List A → Type 0 where

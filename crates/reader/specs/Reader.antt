@@ -1,29 +1,32 @@
 -- The reader, for any kind, size and bytes: 1, then 2, then what the payload's bits come to.
-use Prim.Native.Nat.{ℕ}
-use mathlib.Core.Bool.{Bool, true, false}
+use Prim.Native.Nat.{ℕ, _≤_, _<_}
+use mathlib.Core.Path.{_≡_}
+use mathlib.Core.Logic.{_⊎_}
 use mathlib.Core.List.{List}
 use lib.ListN.{length, take}
+use Rattle.bits.specs.Bits.{mostBytes}
 use Rattle.bits.specs.Refusals.{bySize}
-use Rattle.format.specs.Whole.{Reading, refused}
-use Rattle.answers.specs.Listed.{Record, readingOf, named}
+use Rattle.answers.specs.Listed.{number, readingOf}
+use Rattle.answers.specs.Answer.{answerFor, refusedAs, unknown}
 use Rattle.answers.specs.declared.kind.Kind.{Kind}
-use Rattle.answers.specs.declared.kind.Named.{Named}
-use Rattle.answers.specs.declared.kind.Named.the-variants.{Listed, Unlisted}
-use Rattle.entry.specs.Entry.{fits}
-use Rattle.answers.specs.Answer.{answerFor, unknown}
 use Rattle.answers.specs.declared.Answer.{Answer}
-
-abbrev pub sized : ℕ → List ℕ → Bool
-sized size bytes = fits size (length bytes)
+use Rattle.entry.specs.Entry.{entryTo}
+use Rattle.entry.specs.declared.Entry.{Entry}
+use Rattle.entry.specs.declared.Entry.the-variants.{Unlisted, Oversized, Payload}
 
 -- the stated size cuts the lent bytes
-abbrev pub cut : (k : Kind) → Bool → ℕ → List ℕ → Reading (Record k)
-cut k true size bytes = readingOf k (take size bytes)
-cut k false size bytes = refused bySize
-
-abbrev pub answered : Named → ℕ → List ℕ → Answer
+abbrev pub answered : Entry → ℕ → List ℕ → Answer
 answered Unlisted size bytes = unknown
-answered (Listed k) size bytes = answerFor k (cut k (sized size bytes) size bytes)
+answered (Oversized k) size bytes = refusedAs k bySize
+answered (Payload k) size bytes = answerFor k (readingOf k (take size bytes))
 
 unfoldable pub answerTo : ℕ → ℕ → List ℕ → Answer
-answerTo n size bytes = answered (named n) size bytes
+answerTo n size bytes = answered (entryTo n size (length bytes)) size bytes
+
+-- The same, declared: the size exceeds the limit or the lent bytes ..
+abbrev pub Over : ℕ → List ℕ → Type 0
+Over size bytes = (mostBytes < size) ⊎ (length bytes < size)
+
+-- .. or n is the number of kind k, and the size is within both.
+abbrev pub Within : Kind → ℕ → ℕ → List ℕ → Type 0
+Within k n size bytes = (n ≡ number k) × (size ≤ mostBytes) × (size ≤ length bytes)

@@ -1,3 +1,4 @@
+-- What the contracts of this crate cite.
 pub mod Projected
 pub mod Packed
 pub mod Bands

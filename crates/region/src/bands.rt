@@ -32,7 +32,7 @@ impl TypesRead {
     {
         match self {
             TypesRead::Refused(why) => why,
-            TypesRead::Taken(_, _) => Refusal::Short,
+            TypesRead::Taken(_, _) => Refusal::unasked(),
         }
     }
 }
@@ -111,7 +111,7 @@ impl BandsRead {
     {
         match self {
             BandsRead::Refused(why) => why,
-            BandsRead::Taken(_, _) => Refusal::Short,
+            BandsRead::Taken(_, _) => Refusal::unasked(),
         }
     }
 }

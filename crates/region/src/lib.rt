@@ -69,7 +69,7 @@ impl RegionRead {
     {
         match self {
             RegionRead::Refused(why) => why,
-            RegionRead::Taken(_, _) => Refusal::Short,
+            RegionRead::Taken(_, _) => Refusal::unasked(),
         }
     }
 }

@@ -29,7 +29,7 @@ impl PackedRead {
     {
         match self {
             PackedRead::Refused(why) => why,
-            PackedRead::Taken(_, _) => Refusal::Short,
+            PackedRead::Taken(_, _) => Refusal::unasked(),
         }
     }
 }

@@ -29,7 +29,7 @@ impl ProjectedRead {
     {
         match self {
             ProjectedRead::Refused(why) => why,
-            ProjectedRead::Taken(_, _) => Refusal::Short,
+            ProjectedRead::Taken(_, _) => Refusal::unasked(),
         }
     }
 }

@@ -9,7 +9,7 @@ use lib.Dec.{leb, eqb}
 use lib.ListN.{length, drop, replicate, length-replicate}
 use borrow.Author.Tests.{leb-true, eqb-false}
 use Rattle.bits.specs.Refusals.{Breach, broken, tooMany, fine, against}
-use Rattle.format.specs.Syntax.{_unless_, _or_}
+use Rattle.format.specs.Syntax.{_unless_, _also_}
 use Rattle.format.specs.Coded.{Coded}
 use Rattle.format.proofs.Always.{Always, Padded, code-below, always-part, always-if, always-any, always-listed, always-coded}
 use Rattle.regions.specs.declared.Packing.{Packing}
@@ -26,7 +26,7 @@ against-fine e = let z : _≡_ {A = ℕ} 0 1 = cc in absurd (omega arith)
 counted : (v : ℕ) → countable v ≡ fine → (1 ≤ v) × (v ≤ most)
 counted v = go (leb 1 v) (leb v most) refl refl
   where
-    go : (a b : Bool) → leb 1 v ≡ a → leb v most ≡ b → (broken unless a) or (tooMany unless b) ≡ fine → (1 ≤ v) × (v ≤ most)
+    go : (a b : Bool) → leb 1 v ≡ a → leb v most ≡ b → (broken unless a) also (tooMany unless b) ≡ fine → (1 ≤ v) × (v ≤ most)
     go true true e f h = (leb-true 1 v e, leb-true v most f)
     go true false e f h = against-fine h
     go false b e f h = against-fine h

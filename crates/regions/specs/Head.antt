@@ -4,7 +4,7 @@ use lib.Dec.{leb}
 use Rattle.bits.specs.Refusals.{Verdict, tooMany}
 use Rattle.bits.specs.Out.{Out, taken, refused}
 use Rattle.format.specs.Format.{Format, done, _>>=_, _>>_}
-use Rattle.format.specs.Syntax.{u, blank, _must_, _unless_, _or_, atLeast}
+use Rattle.format.specs.Syntax.{u, blank, _must_, _unless_, _also_, atLeast}
 use Rattle.regions.specs.declared.head.Head.{Head}
 use Rattle.regions.specs.declared.head.HeadRead.{HeadRead}
 use Rattle.regions.specs.declared.head.HeadRead.the-variants as head-read
@@ -15,7 +15,7 @@ use Rattle.regions.specs.List.{most}
 
 -- a count of regions: 5 where it is 0, 6 above the limit
 abbrev pub countable : ℕ → Verdict
-countable count = atLeast 1 count or (tooMany unless leb count most)
+countable count = atLeast 1 count also (tooMany unless leb count most)
 
 abbrev pub headTable : Format Head
 headTable = do

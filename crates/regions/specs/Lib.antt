@@ -1,3 +1,4 @@
+-- What the contracts of this crate cite.
 pub mod List
 pub mod Head
 pub mod Packing

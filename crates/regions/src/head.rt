@@ -68,7 +68,7 @@ impl HeadRead {
     {
         match self {
             HeadRead::Refused(why) => why,
-            HeadRead::Taken(_, _) => Refusal::Short,
+            HeadRead::Taken(_, _) => Refusal::unasked(),
         }
     }
 }
@@ -122,7 +122,7 @@ impl PicturesRead {
     {
         match self {
             PicturesRead::Refused(why) => why,
-            PicturesRead::Taken(_, _) => Refusal::Short,
+            PicturesRead::Taken(_, _) => Refusal::unasked(),
         }
     }
 }

@@ -1,4 +1,4 @@
--- The payloads of 01 for kind 154, and the ends of its ranges.
+-- Kind 154: the ends of its ranges, reserved bits, and payloads that break off. The payloads of 01 are the reader's.
 -- Assumes nothing.
 use Prim.Native.Nat.{ℕ}
 use mathlib.Core.Path.{refl}
@@ -26,54 +26,42 @@ four a b c d rest = a ∷ b ∷ c ∷ d ∷ rest
 abbrev none : List ℕ → List ℕ
 none = four 0 0 0 0
 
--- these flags and angles, with the bits of their degrees
-abbrev rotated : (cancel persistence : ℕ) → ℤ → ℕ → ℤ → ℕ → ℤ → ℕ → Rotation
-rotated cancel persistence yaw y pitch p roll r =
+-- these angles, with the bits of their degrees, of a message that persists
+abbrev rotated : ℤ → ℕ → ℤ → ℕ → ℤ → ℕ → Rotation
+rotated yaw y pitch p roll r =
     record {
-      cancel = cancel;
-      persistence = persistence;
+      cancel = 0;
+      persistence = 1;
       yaw = yaw;
       pitch = pitch;
       roll = roll;
       degrees = record { yaw = ofBits binary64 y; pitch = ofBits binary64 p; roll = ofBits binary64 r };
     }
 
--- a cancel, of one bit; and a message that persists, of 13 bytes, with one angle that is not 0
-abbrev cancelled : Out Rotation
-cancelled = taken (rotated 1 0 (pos 0) 0 (pos 0) 0 (pos 0) 0) 1
-
+-- a message that persists, of 13 bytes, with one angle that is not 0
 abbrev yawed : ℤ → ℕ → Out Rotation
-yawed z d = taken (rotated 0 1 z d (pos 0) 0 (pos 0) 0) 104
+yawed z d = taken (rotated z d (pos 0) 0 (pos 0) 0) 104
 
 abbrev pitched : ℤ → ℕ → Out Rotation
-pitched z d = taken (rotated 0 1 (pos 0) 0 z d (pos 0) 0) 104
+pitched z d = taken (rotated (pos 0) 0 z d (pos 0) 0) 104
 
 abbrev rolled : ℤ → ℕ → Out Rotation
-rolled z d = taken (rotated 0 1 (pos 0) 0 (pos 0) 0 z d) 104
+rolled z d = taken (rotated (pos 0) 0 (pos 0) 0 z d) 104
 
--- C0, 80 and FF differ in their tails; nothing at all
-cancels : Worked rotation (row (0xc0 ∷ []) cancelled ∷ row (0x80 ∷ []) cancelled ∷ row (0xff ∷ []) cancelled ∷ row [] (refused Short) ∷ [])
-unfolding rotation angleIn runAt run elementFront uFront from part number bitAt signedOf degreeBits
-cancels = refl
-
--- pitch from -90 degrees to 90, and one past each
+-- the least pitch, -90 degrees, and one past it
 pitches :
     Worked rotation
-    (row (message 0x40 none (four 0x00 0x5a 0x00 0x00) none) (pitched (pos 5_898_240) 0x4056_8000_0000_0000)
-    ∷ row (message 0x40 none (four 0x00 0x5a 0x00 0x01) none) (refused Rule)
-    ∷ row (message 0x40 none (four 0xff 0xa6 0x00 0x00) none) (pitched (negsuc 5_898_239) 0xc056_8000_0000_0000)
+    (row (message 0x40 none (four 0xff 0xa6 0x00 0x00) none) (pitched (negsuc 5_898_239) 0xc056_8000_0000_0000)
     ∷ row (message 0x40 none (four 0xff 0xa5 0xff 0xff) none) (refused Rule)
     ∷ [])
 unfolding rotation angleIn runAt run elementFront uFront from part number bitAt signedOf degreeBits
 pitches = refl
 
--- yaw, and roll, from -180 degrees to just below 180, and one past each
+-- yaw just below -180 degrees and just below 180; roll from -180 degrees to just below 180, and one past each
 turns :
     Worked rotation
-    (row (message 0x40 (four 0xff 0x4c 0x00 0x00) none none) (yawed (negsuc 11_796_479) 0xc066_8000_0000_0000)
-    ∷ row (message 0x40 (four 0xff 0x4b 0xff 0xff) none none) (refused Rule)
+    (row (message 0x40 (four 0xff 0x4b 0xff 0xff) none none) (refused Rule)
     ∷ row (message 0x40 (four 0x00 0xb3 0xff 0xff) none none) (yawed (pos 11_796_479) 0x4066_7fff_e000_0000)
-    ∷ row (message 0x40 (four 0x00 0xb4 0x00 0x00) none none) (refused Rule)
     ∷ row (message 0x40 none none (four 0xff 0x4c 0x00 0x00)) (rolled (negsuc 11_796_479) 0xc066_8000_0000_0000)
     ∷ row (message 0x40 none none (four 0xff 0x4b 0xff 0xff)) (refused Rule)
     ∷ row (message 0x40 none none (four 0x00 0xb3 0xff 0xff)) (rolled (pos 11_796_479) 0x4066_7fff_e000_0000)

@@ -23,7 +23,7 @@ impl AngleRead {
     {
         match self {
             AngleRead::Refused(why) => why,
-            AngleRead::Value(_, _) => Refusal::Short,
+            AngleRead::Value(_, _) => Refusal::unasked(),
         }
     }
 }

@@ -63,7 +63,7 @@ impl RotationRead {
     {
         match self {
             RotationRead::Refused(why) => why,
-            RotationRead::Taken(_, _) => Refusal::Short,
+            RotationRead::Taken(_, _) => Refusal::unasked(),
         }
     }
 }

@@ -13,7 +13,8 @@ use Rattle.region.specs.declared.Region.{Region}
 use Rattle.regions.specs.declared.Packing.{Packing}
 use Rattle.rows.specs.declared.Split.the-variants.{Whole, Beside, Below}
 use Rattle.rows.specs.declared.Tabled.the-variants.{Rows, Refused}
-use Rattle.rows.specs.Rows.{rowsOf, rowCount, tableOf, refuses, outcome, wrote}
+use Rattle.rows.specs.Rows.{rowsOf, rowCount, tableOf, refuses, wrote}
+use Rattle.lent.specs.Lent.{left}
 
 abbrev packing : (count width height : ℕ) → List Region → Packing
 packing count width height rs =
@@ -55,13 +56,13 @@ abbrev marks : List ℕ
 marks = replicate 20 99
 
 -- one region, no second half: nine numbers are written, and the eleven past them stay
-once : wrote (tableOf (packing 1 100 50 (told ∷ [])) Whole 20) marks ≡ outcome (Rows 1) (10 ∷ 20 ∷ 30 ∷ 40 ∷ 1 ∷ 2 ∷ 3 ∷ 4 ∷ 5 ∷ replicate 11 99)
+once : wrote (tableOf (packing 1 100 50 (told ∷ [])) Whole 20) marks ≡ left (Rows 1) (10 ∷ 20 ∷ 30 ∷ 40 ∷ 1 ∷ 2 ∷ 3 ∷ 4 ∷ 5 ∷ replicate 11 99)
 unfolding tableOf rowsOf rowCount
 once = refl
 
 -- the second row is lower by half of 51 and half of 7
 under : wrote (tableOf (packing 1 100 51 (told ∷ [])) Below 20) marks
-    ≡ outcome (Rows 2) (10 ∷ 20 ∷ 30 ∷ 40 ∷ 1 ∷ 2 ∷ 3 ∷ 4 ∷ 5 ∷ 10 ∷ 45 ∷ 30 ∷ 40 ∷ 1 ∷ 5 ∷ 3 ∷ 4 ∷ 5 ∷ 99 ∷ 99 ∷ [])
+    ≡ left (Rows 2) (10 ∷ 20 ∷ 30 ∷ 40 ∷ 1 ∷ 2 ∷ 3 ∷ 4 ∷ 5 ∷ 10 ∷ 45 ∷ 30 ∷ 40 ∷ 1 ∷ 5 ∷ 3 ∷ 4 ∷ 5 ∷ 99 ∷ 99 ∷ [])
 unfolding tableOf rowsOf rowCount
 under = refl
 
@@ -76,7 +77,7 @@ unfolding rowsOf
 wide = refl
 
 -- two rows are 18 numbers: 17 are too few, and none is written
-short : wrote (tableOf (packing 1 100 50 (told ∷ [])) Beside 17) (replicate 17 99) ≡ outcome (Refused byRows) (replicate 17 99)
+short : wrote (tableOf (packing 1 100 50 (told ∷ [])) Beside 17) (replicate 17 99) ≡ left (Refused byRows) (replicate 17 99)
 unfolding tableOf rowsOf rowCount
 short = refl
 

@@ -3,18 +3,18 @@
 use Prim.Native.Nat.{ℕ, _+_, _*_, _≤_, _<_}
 use mathlib.Core.Path.{_≡_, refl, sym, ap, _∙_}
 use mathlib.Core.List.{List, [], _∷_, _++_, append-assoc}
-use native.Mathlib.Nat.{zero-add}
 use native.Mathlib.Numerals.{add-one}
 use native.Mathlib.Omega.{arith}
 use borrow.Author.Tests.{le-leb, lt-leb}
-use lib.ListN.{length, getD, take, drop, length-append}
-use lib.Seq.{sets, sets-eq, take-suc, length-take-le}
+use lib.ListN.{length, getD, take, length-append}
+use lib.Seq.{sets, take-suc, length-take-le}
 use Rattle.bits.specs.Refusals.{byRows}
-use Rattle.lent.proofs.Stores.{sets-append}
+use Rattle.lent.proofs.Stores.{sets-append, sets-front}
 use Rattle.region.specs.declared.Region.{Region}
 use Rattle.rows.specs.declared.Shift.{Shift}
 use Rattle.rows.specs.declared.Tabled.the-variants.{Rows, Refused}
-use Rattle.rows.specs.Rows.{row, rowsBy, noShift, twiceOf, fitted, outcome, wrote}
+use Rattle.rows.specs.Rows.{row, rowsBy, noShift, twiceOf, fitted, wrote}
+use Rattle.lent.specs.Lent.{left}
 
 -- ---- rows
 
@@ -44,22 +44,20 @@ rows-more by l rs at i d h =
 
 -- ---- what is left of the lent numbers l
 
-pub few : (n : ℕ) (xs l : List ℕ) → length l < 9 * n → outcome (Refused byRows) l ≡ wrote (fitted n xs (length l)) l
+pub few : (n : ℕ) (xs l : List ℕ) → length l < 9 * n → left (Refused byRows) l ≡ wrote (fitted n xs (length l)) l
 few n xs l h = simp (lt-leb _ _ h)
 
-enough : (n : ℕ) (xs l : List ℕ) → length xs ≡ 9 * n → 9 * n ≤ length l → outcome (Rows n) (sets l 0 xs) ≡ wrote (fitted n xs (length l)) l
-enough n xs l e h =
-    let front : sets l 0 xs ≡ xs ++ drop (length xs) l = rw (sets-eq xs l 0 (omega arith), zero-add) in
-    simp (le-leb _ _ h, front)
+enough : (n : ℕ) (xs l : List ℕ) → length xs ≡ 9 * n → 9 * n ≤ length l → left (Rows n) (sets l 0 xs) ≡ wrote (fitted n xs (length l)) l
+enough n xs l e h = simp (le-leb _ _ h, sets-front xs l (omega arith))
 
 -- z is no shift, and l₁ the numbers once the first rows are written
 module _ (rs : List Region) (n : ℕ) (l l₁ : List ℕ) (z : Shift) (h : n ≤ length rs) (y : z ≡ noShift) (q₁ : l₁ ≡ sets l 0 (rowsBy z (take n rs))) where
-  pub once-written : 9 * n ≤ length l → outcome (Rows n) l₁ ≡ wrote (fitted n (rowsBy noShift (take n rs)) (length l)) l
+  pub once-written : 9 * n ≤ length l → left (Rows n) l₁ ≡ wrote (fitted n (rowsBy noShift (take n rs)) (length l)) l
   once-written r = rw (q₁, y) (enough n (rowsBy noShift (take n rs)) l (rows-first noShift rs n h) r)
 
   -- and l₂ once the second are
   pub twice-written : (l₂ : List ℕ) (by : Shift) → l₂ ≡ sets l₁ (9 * n) (rowsBy by (take n rs)) → 9 * (2 * n) ≤ length l
-      → outcome (Rows (2 * n)) l₂ ≡ wrote (fitted (2 * n) (twiceOf by (take n rs)) (length l)) l
+      → left (Rows (2 * n)) l₂ ≡ wrote (fitted (2 * n) (twiceOf by (take n rs)) (length l)) l
   twice-written l₂ by q₂ r =
       let k : 0 + length (rowsBy noShift (take n rs)) ≡ 9 * n = omega (arith, rows-first noShift rs n h) in
       let both : l₂ ≡ sets l 0 (twiceOf by (take n rs)) = rw (q₂, q₁, y, sets-append (rowsBy noShift (take n rs)) (rowsBy by (take n rs)) l 0, k) in

@@ -2,27 +2,17 @@
 -- Assumes nothing.
 use Prim.Native.Nat.{ℕ, _*_, _≤_, _<_}
 use mathlib.Core.Path.{_≡_, _∙_}
-use mathlib.Core.Logic.{_⊎_, inl, inr}
+use mathlib.Core.Logic.{inl, inr}
 use native.Mathlib.Omega.{arith}
 use borrow.Author.Tests.{le-leb, lt-leb}
 use lib.ListN.{length}
 use Rattle.bits.specs.Refusals.{byTable, byRows}
-use Rattle.regions.specs.List.{most}
 use Rattle.regions.specs.declared.Packing.{Packing}
 use Rattle.rows.specs.declared.Split.{Split}
 use Rattle.rows.specs.declared.Split.the-variants.{Whole, Beside, Below}
 use Rattle.rows.specs.declared.Tabled.the-variants.{Rows}
-use Rattle.rows.specs.Rows.{rowsBy, noShift, beside, below, twiceOf, regionsOf, rowsOf, rowCount, refuses, fitted, tableOf}
+use Rattle.rows.specs.Rows.{Countable, Uncountable, rowsBy, noShift, beside, below, twiceOf, regionsOf, rowsOf, rowCount, refuses, fitted, tableOf}
 use Rattle.rows.proofs.RowLaws.{rows-first, twice-length}
-
--- the record has a region, and no more than it can hold
-pub record Countable (p : Packing) : Type 0 where
-  pub some : 1 ≤ p .count
-  pub few : p .count ≤ most
-
--- it has none, or more
-abbrev pub Uncountable : Packing → Type 0
-Uncountable p = (p .count ≡ 0) ⊎ (most < p .count)
 
 pub rows-long : (p : Packing) (split : Split) → p .count ≤ length (p .regions) → length (rowsOf p split) ≡ 9 * rowCount p split
 unfolding rowsOf rowCount

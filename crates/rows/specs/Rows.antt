@@ -1,11 +1,14 @@
 -- The region table: 01, "Region table", with the offsets of H.274 8.15.5.2.
-use Prim.Native.Nat.{ℕ, _+_, _*_, _/_}
+use Prim.Native.Nat.{ℕ, _+_, _*_, _/_, _≤_, _<_}
+use mathlib.Core.Path.{_≡_}
+use mathlib.Core.Logic.{_⊎_}
 use mathlib.Core.Bool.{cond}
 use mathlib.Core.List.{List, [], _∷_, _++_}
 use lib.Dec.{leb}
-use lib.ListN.{length, take, drop}
-use Rattle.bits.specs.Refusals.{byTable, byRows}
+use lib.ListN.{take}
+use Rattle.bits.specs.Refusals.{numberOf, byTable, byRows}
 use Rattle.bits.specs.declared.refusal.Refusal.{Refusal}
+use Rattle.lent.specs.Lent.{Left, left, over}
 use Rattle.regions.specs.List.{most}
 use Rattle.region.specs.declared.Region.{Region}
 use Rattle.regions.specs.declared.Packing.{Packing}
@@ -68,7 +71,26 @@ rowCount p Whole = p .count
 rowCount p Beside = 2 * p .count
 rowCount p Below = 2 * p .count
 
+-- the record has a region, and no more than it can hold
+pub record Countable (p : Packing) : Type 0 where
+  pub some : 1 ≤ p .count
+  pub few : p .count ≤ most
+
+-- it has none, or more
+abbrev pub Uncountable : Packing → Type 0
+Uncountable p = (p .count ≡ 0) ⊎ (most < p .count)
+
 -- ---- the call
+
+-- the number that a caller gets: 0 for rows
+abbrev pub tabledNumber : Tabled → ℕ
+tabledNumber (Rows n) = 0
+tabledNumber (Refused why) = numberOf why
+
+-- how many rows were written
+abbrev pub tabledRows : Tabled → ℕ
+tabledRows (Rows n) = n
+tabledRows (Refused why) = 0
 
 -- what a call answers and what it writes, which is nothing where it refuses
 pub record Table : Type 0 where
@@ -89,14 +111,6 @@ tableOf p split room =
     (cond (leb (p .count) most) (fitted (rowCount p split) (rowsOf p split) room) (refuses byTable))
     (refuses byTable)
 
--- what a call answers, and the lent numbers as it leaves them
-pub record Outcome : Type 0 where
-  pub answer : Tabled
-  pub lent : List ℕ
-
-abbrev pub outcome : Tabled → List ℕ → Outcome
-outcome r lent = record { answer = r; lent = lent }
-
--- what is written stands at the front, and the numbers past it stay
-abbrev pub wrote : Table → List ℕ → Outcome
-wrote t lent = outcome (t .answer) (t .rows ++ drop (length (t .rows)) lent)
+-- the rows stand at the front of what was lent
+abbrev pub wrote : Table → List ℕ → Left Tabled
+wrote t lent = left (t .answer) (over (t .rows) lent)

@@ -9,7 +9,8 @@ ghost use Prim.Native.Nat.{_+_, _*_, _≤_};
 ghost use lib.ListN.{length, take};
 ghost use lib.Seq.{sets};
 ghost use Rattle.regions.specs.List.{most};
-ghost use Rattle.rows.specs.Rows.{noShift, row, rowsBy, twiceOf, fitted, tableOf, outcome, wrote};
+ghost use Rattle.rows.specs.Rows.{noShift, row, rowsBy, twiceOf, fitted, tableOf, wrote};
+ghost use Rattle.lent.specs.Lent.{left};
 
 // How the second half of the rows is shifted.
 pub enum Split {
@@ -88,7 +89,7 @@ fn put_rows(lent: &mut [u64], at: usize, regions: [Region; MOST], count: usize, 
 // One row a region, or none at all.
 fn once(lent: &mut [u64], regions: [Region; MOST], count: usize) -> Tabled
     requires { ⌜ count ≤ most ⌝ }
-    ensures { λ r. ⌜ outcome r (now (lent .exit)) ≡ wrote (fitted count (rowsBy noShift (take count regions)) (length (now (lent .entry)))) (now (lent .entry)) ⌝ }
+    ensures { λ r. ⌜ left r (now (lent .exit)) ≡ wrote (fitted count (rowsBy noShift (take count regions)) (length (now (lent .entry)))) (now (lent .entry)) ⌝ }
 {
     if lent.len() < 9 * count {
         return Tabled::Refused(Refusal::rows());
@@ -100,7 +101,7 @@ fn once(lent: &mut [u64], regions: [Region; MOST], count: usize) -> Tabled
 // The same, followed by as many again, shifted.
 fn twice(lent: &mut [u64], regions: [Region; MOST], count: usize, by: Shift) -> Tabled
     requires { ⌜ count ≤ most ⌝ }
-    ensures { λ r. ⌜ outcome r (now (lent .exit)) ≡ wrote (fitted (2 * count) (twiceOf by (take count regions)) (length (now (lent .entry)))) (now (lent .entry)) ⌝ }
+    ensures { λ r. ⌜ left r (now (lent .exit)) ≡ wrote (fitted (2 * count) (twiceOf by (take count regions)) (length (now (lent .entry)))) (now (lent .entry)) ⌝ }
 {
     let n = 2 * count;
     if lent.len() < 9 * n {
@@ -114,7 +115,7 @@ fn twice(lent: &mut [u64], regions: [Region; MOST], count: usize, by: Shift) -> 
 // The table, over the front of the lent numbers. A record with no region is that of a cancel, and one with more than it holds no reader makes;
 // a caller can pass either.
 pub fn write(p: Packing, split: Split, lent: &mut [u64]) -> Tabled
-    ensures { λ r. ⌜ outcome r (now (lent .exit)) ≡ wrote (tableOf p split (length (now (lent .entry)))) (now (lent .entry)) ⌝ }
+    ensures { λ r. ⌜ left r (now (lent .exit)) ≡ wrote (tableOf p split (length (now (lent .entry)))) (now (lent .entry)) ⌝ }
 {
     let count = p.count as usize;
     if count == 0 {

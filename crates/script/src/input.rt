@@ -1,7 +1,9 @@
 // Standard input, line by line.
 use libc::STDIN_FILENO;
-ghost use mathlib.Core.Bool.{false};
+ghost use mathlib.Core.Bool.{true, false};
 ghost use mathlib.Core.Path.{_≡_};
+ghost use Prim.Native.Nat.{_≤_};
+ghost use Rattle.script.specs.Input.{begun, plainByte, onwardOf, filledOf, withByte, byteLeft, step, nextOf};
 
 // Bytes that are read at once, and one more than a line may have.
 pub const CHUNK: usize = 4096;
@@ -23,7 +25,9 @@ pub struct Input {
 }
 
 // Tabs and carriage returns count as spaces.
-fn plain(b: u8) -> u8 {
+fn plain(b: u8) -> u8
+    ensures { λ r. ⌜ r ≡ plainByte b ⌝ }
+{
     match b {
         b'\t' => b' ',
         b'\r' => b' ',
@@ -33,7 +37,7 @@ fn plain(b: u8) -> u8 {
 
 impl Input {
     pub fn start() -> Input
-        ensures { λ r. ⌜ (r .at ≡ 0) × (r .end ≡ 0) × (r .line ≡ 1) × (r .length ≡ 0) × (r .whole ≡ false) × (r .over ≡ false) ⌝ }
+        ensures { λ r. ⌜ r ≡ begun ⌝ }
     {
         Input {
             at: 0,
@@ -46,7 +50,9 @@ impl Input {
     }
 
     // After a whole line the next one begins.
-    fn onward(mut self) -> Input {
+    fn onward(mut self) -> Input
+        ensures { λ r. ⌜ r ≡ onwardOf self ⌝ }
+    {
         if self.whole {
             self.line = std::num::wrapping_add_u64(self.line, 1);
             self.length = 0;
@@ -56,7 +62,9 @@ impl Input {
     }
 
     // The next chunk. A last line may have no end of line.
-    fn filled(mut self, chunk: &mut [u8; CHUNK]) -> Input {
+    fn filled(mut self, chunk: &mut [u8; CHUNK]) -> Input
+        ensures { λ r. ⌜ (r ≡ filledOf self (r .end)) × (r .end ≤ 4096) ⌝ }
+    {
         let got = libc::read(STDIN_FILENO, chunk);
         let n = io::count(got, chunk);
         self.at = 0;
@@ -68,7 +76,9 @@ impl Input {
         self
     }
 
-    fn with(mut self, b: u8, line: &mut [u8; LINE]) -> Input {
+    fn with(mut self, b: u8, line: &mut [u8; LINE]) -> Input
+        ensures { λ r. ⌜ step r (now (line .exit)) ≡ withByte self b (now (line .entry)) ⌝ }
+    {
         if b == b'\n' {
             self.whole = true;
             return self;
@@ -81,8 +91,12 @@ impl Input {
         self
     }
 
-    // One byte further, or one chunk.
-    pub fn next(self, chunk: &mut [u8; CHUNK], line: &mut [u8; LINE]) -> Input {
+    // One byte further, or one chunk, of which only the outside knows how many bytes there are, and which.
+    pub fn next(self, chunk: &mut [u8; CHUNK], line: &mut [u8; LINE]) -> Input
+        ensures { λ r. ⌜ step r (now (line .exit)) ≡ nextOf self (now (chunk .entry)) (now (line .entry)) (r .end) ⌝ }
+        ensures { λ r. ⌜ (byteLeft (onwardOf self) ≡ true → now (chunk .exit) ≡ now (chunk .entry)) ⌝ }
+        ensures { λ r. ⌜ (byteLeft (onwardOf self) ≡ false → r .end ≤ 4096) ⌝ }
+    {
         let mut r = self.onward();
         let at = r.at;
         if at < r.end {

@@ -1,6 +1,8 @@
 // The calls by name. Each has a place in the two lists below; what is no call has the place after them.
 use print::piece;
 use words::place::find;
+ghost use mathlib.Core.Path.{_≡_};
+ghost use Rattle.script.specs.Names.{wordsOf, placeIn, names};
 
 pub const OPEN: u64 = 0;
 
@@ -21,7 +23,9 @@ pub const EXPLAIN: u64 = 7;
 pub const HELP: u64 = 8;
 
 // The place of a word in a list, each with a bar after it; the list's count where it is none of them.
-fn among(list: &[u8], word: &[u8]) -> u64 {
+fn among(list: &[u8], word: &[u8]) -> u64
+    ensures { λ r. ⌜ r ≡ placeIn (wordsOf (now (list .entry))) (now (word .entry)) ⌝ }
+{
     let mut n: u64 = 0;
     let mut at = 0;
     let mut end = find(list, 0, b'|');
@@ -36,7 +40,9 @@ fn among(list: &[u8], word: &[u8]) -> u64 {
     n
 }
 
-pub fn place(word: &[u8]) -> u64 {
+pub fn place(word: &[u8]) -> u64
+    ensures { λ r. ⌜ r ≡ placeIn names (now (word .entry)) ⌝ }
+{
     among(
         b"open|close|sequence|picture|table|feed|read|explain|help|",
         word,

@@ -8,6 +8,10 @@ use crate::wrong::wrong;
 use words::hex::Hex;
 use words::hex::bytes;
 use words::number::Spelled;
+ghost use mathlib.Core.Path.{_≡_};
+ghost use Rattle.words.specs.Hex.{spelling, into};
+ghost use Rattle.lent.specs.Lent.{left};
+ghost use Rattle.script.specs.Payload.{plainOf, statedOf, payloadOf};
 
 pub enum Given {
     Payload(Payload),
@@ -16,7 +20,9 @@ pub enum Given {
 }
 
 // How many bytes a text spells. What is wrong with them has been said.
-fn count(at: At, s: &[u8], out: &mut [u8]) -> Hex {
+fn count(at: At, s: &[u8], out: &mut [u8]) -> Hex
+    ensures { λ r. ⌜ left r (now (out .exit)) ≡ into (now (out .entry)) (spelling 0 0 (now (s .entry))) ⌝ }
+{
     let r = bytes(s, out);
     match r {
         Hex::Bytes(_) => {}
@@ -32,7 +38,9 @@ fn count(at: At, s: &[u8], out: &mut [u8]) -> Hex {
 }
 
 // Bytes alone: their count is the size.
-fn plain(at: At, kind: u64, s: &[u8], out: &mut [u8]) -> Given {
+fn plain(at: At, kind: u64, s: &[u8], out: &mut [u8]) -> Given
+    ensures { λ r. ⌜ left r (now (out .exit)) ≡ plainOf kind (now (s .entry)) (now (out .entry)) ⌝ }
+{
     let r = count(at, s, out);
     let Hex::Bytes(n) = r else {
         return Given::Wrong;
@@ -45,7 +53,9 @@ fn plain(at: At, kind: u64, s: &[u8], out: &mut [u8]) -> Given {
 }
 
 // The size, and then the bytes.
-fn stated(at: At, kind: u64, s: &[u8], out: &mut [u8]) -> Given {
+fn stated(at: At, kind: u64, s: &[u8], out: &mut [u8]) -> Given
+    ensures { λ r. ⌜ left r (now (out .exit)) ≡ statedOf kind (now (s .entry)) (now (out .entry)) ⌝ }
+{
     let size = argument(at, s, wrong::NO_SIZE);
     let Spelled::Value(n) = size else {
         return Given::Wrong;
@@ -59,7 +69,9 @@ fn stated(at: At, kind: u64, s: &[u8], out: &mut [u8]) -> Given {
     Given::Payload(sized)
 }
 
-pub fn payload(at: At, s: &[u8], out: &mut [u8]) -> Given {
+pub fn payload(at: At, s: &[u8], out: &mut [u8]) -> Given
+    ensures { λ r. ⌜ left r (now (out .exit)) ≡ payloadOf (now (s .entry)) (now (out .entry)) ⌝ }
+{
     let r = argument(at, s, wrong::NO_KIND);
     let Spelled::Value(kind) = r else {
         return Given::Wrong;

@@ -32,7 +32,7 @@ fn reason(why: u64) {
     piece(
         b"the slot number is missing|how many numbers are lent is missing|the kind is missing|the size is missing|\
         is no decimal number|does not fit 64 bits|is too much|\
-        odd count of hex digits|starts with no hex digit|more than 10000 bytes|is no call",
+        a byte is two hex digits that stand together|starts with no hex digit|more than 10000 bytes|is no call",
         why,
     );
 }

@@ -18,12 +18,12 @@ use crate::user_names::unregistered;
 use print::numbered;
 use print::text;
 
-// The row of a kind; part is what follows the head of kinds 4 and 5.
-fn record(style: Style, kind: u64, row: &[u64], part: &[u8]) {
+// The row of a kind; part is what follows the head of kinds 4 and 5. A message of kind 45 may be set aside.
+fn record(style: Style, kind: u64, row: &[u64], part: &[u8], aside: bool) {
     match kind {
         4 => registered(style, row, part),
         5 => unregistered(style, row, part),
-        45 => frame_packing(style, row),
+        45 => frame_packing(style, row, aside),
         47 => orientation(style, row),
         150 => equirectangular(style, row),
         154 => rotation(style, row),
@@ -37,7 +37,7 @@ fn record(style: Style, kind: u64, row: &[u64], part: &[u8]) {
 // A held record, on a line of its own.
 pub fn held(kind: u64, row: &[u64]) {
     numbered(b"\n  #", kind);
-    record(Style::Line, kind, row, b"");
+    record(Style::Line, kind, row, b"", false);
 }
 
 fn extension(style: Style, row: &[u64]) {
@@ -75,7 +75,7 @@ pub fn answer(style: Style, n: u32, kind: u64, size: u64, row: &[u64], part: &[u
     match n {
         0 | 20 => {
             extension(style, row);
-            record(style, kind, row, part);
+            record(style, kind, row, part, n == 20);
         }
         _ => {}
     }

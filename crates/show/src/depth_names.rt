@@ -77,8 +77,8 @@ fn specified(row: &[u64], from: usize)
     bits(pattern);
 }
 
-// A number that is coded, and the parts that code it.
-fn coded(row: &[u64], from: usize)
+// The number, if it is one.
+fn value(row: &[u64], from: usize)
     requires { ⌜ from ≤ 256 ⌝ }
 {
     if at(row, from + 4) == 1 {
@@ -86,6 +86,22 @@ fn coded(row: &[u64], from: usize)
     } else {
         specified(row, from);
     }
+}
+
+// What a number measures, where it is explained: the first two of the four are depths.
+fn measured(style: Style, flag: usize) {
+    let Style::Explained = style else {
+        return;
+    };
+    if flag < 3 {
+        text(b": distance from the camera, its unit not specified;");
+    } else {
+        text(b": shift between two views, in luma sample widths;");
+    }
+}
+
+// The parts that code a number.
+fn parts(row: &[u64], from: usize) {
     text(b" from");
     let place = Place {
         from,
@@ -100,6 +116,16 @@ fn coded(row: &[u64], from: usize)
     );
 }
 
+// A number that is coded.
+fn coded(style: Style, row: &[u64], flag: usize)
+    requires { ⌜ flag ≤ 4 ⌝ }
+{
+    let from = 6 * flag + 1;
+    value(row, from);
+    measured(style, flag);
+    parts(row, from);
+}
+
 // One of the four numbers, which its flag in the row says is there.
 fn element(style: Style, row: &[u64], flag: usize)
     requires { ⌜ flag ≤ 4 ⌝ }
@@ -109,7 +135,7 @@ fn element(style: Style, row: &[u64], flag: usize)
         apart(style);
         piece(b"|ZNear=|ZFar=|DMin=|DMax=", flag as u64);
         if there {
-            coded(row, 6 * flag + 1);
+            coded(style, row, flag);
         } else {
             text(b"absent");
         }
@@ -132,7 +158,7 @@ fn list(style: Style, row: &[u64], count: u64) {
             style,
             row,
             place,
-            b"0 depth_nonlinear_representation_model[#]",
+            b"0 depth_nonlinear_representation_model[#]|deviation from the straight line at this node",
         );
         i += 1;
     }
@@ -148,12 +174,13 @@ pub fn depth_information(style: Style, row: &[u64]) {
         style,
         row,
         carried(style, viewed(at(row, 3), at(row, 4)), false),
-        b"0 z_near_flag|not coded|coded\n\
-        0 z_far_flag|not coded|coded\n\
-        0 d_min_flag|not coded|coded\n\
-        0 d_max_flag|not coded|coded\n\
-        0 depth_representation_type|samples are the inverse of the distance|samples are disparity|samples are the distance|samples are disparity, mapped by the list|reserved\n\
-        1 disparity_ref_view_id",
+        b"0 z_near_flag|the nearest depth is not coded|the nearest depth is coded\n\
+        0 z_far_flag|the farthest depth is not coded|the farthest depth is coded\n\
+        0 d_min_flag|the minimum disparity is not coded|the minimum disparity is coded\n\
+        0 d_max_flag|the maximum disparity is not coded|the maximum disparity is coded\n\
+        0 depth_representation_type|samples are the inverse of the distance|samples are disparity|\
+        samples are the distance|samples are disparity, mapped by the list|reserved\n\
+        1 disparity_ref_view_id|the view for which disparities are derived",
     );
     element(style, row, 1);
     element(style, row, 2);
@@ -165,7 +192,7 @@ pub fn depth_information(style: Style, row: &[u64]) {
             style,
             carried(style, true, false),
             count - 1,
-            b"0 depth_nonlinear_representation_num_minus1",
+            b"0 depth_nonlinear_representation_num_minus1|one less than the numbers that follow, two less than the mapping's linear segments",
         );
         list(style, row, count);
     }

@@ -30,6 +30,8 @@ fn common(letter: u8, n: u64) {
             picture content, its quality changing towards the neighbour's|picture content of like quality",
             n,
         ),
+        b'j' => text(b"relative projected picture sample units"),
+        b'k' => text(b"relative packed picture sample units"),
         _ => piece(
             b"no transform|mirrored horizontally|rotated by 180 degrees anticlockwise|\
             rotated by 180 degrees anticlockwise, then mirrored horizontally|\
@@ -42,17 +44,20 @@ fn common(letter: u8, n: u64) {
     }
 }
 
-// What 0, 1 and so on mean, each after a bar, the last for all that are larger; or '@' and the letter of a shared meaning.
+// What 0, 1 and so on mean, each after a bar, the last for all that are larger; or one bar, a text, '@' and the letter of a shared meaning.
 fn meaning(s: &[u8], n: u64) {
-    if s.len() < 3 {
+    let start = 1;
+    if s.len() <= start {
         return;
     }
     text(b": ");
-    if s[1] == b'@' {
-        common(s[2], n);
+    let shared = find(s, start, b'@');
+    let letter = shared + 1;
+    if letter < s.len() {
+        text(&s[start..shared]);
+        common(s[letter], n);
     } else {
-        let after = 1;
-        piece(&s[after..], n);
+        piece(&s[start..], n);
     }
 }
 

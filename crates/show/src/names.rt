@@ -1,6 +1,7 @@
 // The names of kinds 45, 47, 150 and 165, and what their values mean. A line begins with how deep its field lies (`style::depth`).
 use crate::field::Place;
 use crate::field::at;
+use crate::field::field;
 use crate::field::fields;
 use crate::style::Style;
 use crate::style::depth;
@@ -24,17 +25,36 @@ fn placed(quincunx: u64, arrangement: u64) -> bool {
     quincunx == 0 && arrangement != 5
 }
 
-pub fn frame_packing(style: Style, row: &[u64]) {
+// A message that is set aside changes no slot, a cancel neither.
+fn arrangement_cancel(style: Style, place: Place, n: u64, aside: bool) {
+    if aside {
+        field(
+            style,
+            place,
+            n,
+            b"0 fp_arrangement_cancel_flag|fields follow|ends nothing, since the message is set aside",
+        );
+    } else {
+        field(style, place, n, b"0 fp_arrangement_cancel_flag|@c");
+    }
+}
+
+// What follows the cancel flag.
+fn arrangement(style: Style, row: &[u64], depth: u8) {
+    let place = Place {
+        from: 3,
+        index: 0,
+        depth,
+    };
     fields(
         style,
         row,
-        carried(style, at(row, 2) == 0, placed(at(row, 4), at(row, 3))),
-        b"0 fp_arrangement_id\n\
-        0 fp_arrangement_cancel_flag|@c\n\
-        1 fp_arrangement_type|reserved|reserved|reserved|side by side|top and bottom|the two frames alternate in time|reserved\n\
+        place,
+        b"1 fp_arrangement_type|reserved|reserved|reserved|side by side|top and bottom|the two frames alternate in time|reserved\n\
         1 fp_quincunx_sampling_flag|not quincunx sampled|quincunx sampled\n\
         1 fp_content_interpretation_type|which view is which is not said|frame 0 is the left view|frame 0 is the right view|reserved\n\
-        1 fp_spatial_flipping_flag|no frame is flipped|one frame is flipped: sideways if side by side, upside down if top and bottom\n\
+        1 fp_spatial_flipping_flag|no frame is flipped|\
+        if side by side, one frame is flipped sideways; if top and bottom, upside down; under other types to be ignored\n\
         1 fp_frame0_flipped_flag|if one is flipped, it is frame 1|if one is flipped, it is frame 0\n\
         1 fp_field_views_flag|as it must be|reserved, to be ignored\n\
         1 fp_current_frame_is_frame0_flag|if they alternate, this picture is frame 1|if they alternate, this picture is frame 0\n\
@@ -47,6 +67,13 @@ pub fn frame_packing(style: Style, row: &[u64]) {
         1 fp_arrangement_persistence_flag|@p\n\
         0 fp_upsampled_aspect_ratio_flag|the sample aspect ratio is that before upconversion|the sample aspect ratio is that after upconversion",
     );
+}
+
+pub fn frame_packing(style: Style, row: &[u64], aside: bool) {
+    let place = carried(style, at(row, 2) == 0, placed(at(row, 4), at(row, 3)));
+    fields(style, row, place, b"0 fp_arrangement_id");
+    arrangement_cancel(style, place, at(row, 2), aside);
+    arrangement(style, row, place.depth);
 }
 
 pub fn orientation(style: Style, row: &[u64]) {

@@ -12,7 +12,7 @@ fn place(n: u32) -> u64 {
 pub(crate) fn read(n: u32) {
     numbered(b"# ", n as u64);
     piece(
-        b"taken|unknown kind|bad size|payload too short|too many zeros|rule broken|too many regions|bad tail|no such open slot|\
+        b"taken|unknown kind|bad size|payload too short|too many zeros|rule broken|too many regions|bad tail|no such slot, or it is closed|\
         no region table|too few rows lent|set aside",
         place(n),
     );
@@ -37,7 +37,7 @@ pub fn sentence(n: u32) {
         Refused: a field has a value that the rules do not allow.|\
         Refused: kind 155 with more than 16 regions.|\
         Refused: what follows the message is no permitted tail.|\
-        Refused: the slot number is 8 or more, or the slot is closed.|\
+        Refused: the slot number is 8 or more, or, except for opening, the slot is closed.|\
         Refused: no region table can be made of what the slot holds.|\
         Refused: fewer than nine numbers were lent for each row.|\
         Set aside: kind 45 with a reserved id, type or interpretation. It is read, and no slot changes.",
@@ -45,22 +45,28 @@ pub fn sentence(n: u32) {
     );
 }
 
-// The place of a hint below: a broken rule's is by the kind.
-fn hint_place(n: u32, kind: u64) -> u64 {
-    if n != 5 {
-        return place(n);
-    }
+// The place of a broken rule's hint below, by the kind.
+fn rule_place(kind: u64) -> u64 {
     match kind {
-        154 => 12,
-        155 => 13,
+        154 => 9,
+        155 => 10,
         _ => 5,
     }
 }
 
-// Where to look when a payload of the kind gets a number.
+// The place of a number's hint below: 1 to 7 are their own.
+fn hint_place(n: u32, kind: u64) -> u64 {
+    match n {
+        5 => rule_place(kind),
+        20 => 8,
+        _ => n as u64,
+    }
+}
+
+// Where to look when a payload of the kind is not taken.
 pub(crate) fn hint(n: u32, kind: u64) {
     piece(
-        b"nothing.|\
+        b"|\
         the kind number (payloadType): 4, 5, 45, 47, 150, 154, 155, 165 or 177.|\
         whether the size counts a header too, or the capture lost bytes.|\
         whether the kind is right, and whether the capture lost bytes at the end.|\
@@ -68,9 +74,6 @@ pub(crate) fn hint(n: u32, kind: u64) {
         depth_representation_type is at most 15, depth_nonlinear_representation_num_minus1 at most 62, a listed number at most 65535.|\
         the second byte, rwp_num_packed_regions.|\
         the last byte: it needs a one bit after the message; zero bytes at the end are not permitted.|\
-        the slot: open it first.|\
-        what was fed to the slot.|\
-        how many numbers are lent.|\
         fp_arrangement_id (256 to 511 and 2147483648 on are reserved), the type (3, 4 or 5) and the interpretation (0 to 2).|\
         yaw and roll go from -180 to below 180 degrees, pitch from -90 to 90.|\
         regions and picture sizes are at least 1; a guard band type 0 needs rwp_guard_band_not_used_for_pred_flag=1.",

@@ -27,23 +27,23 @@ fn region(style: Style, row: &[u64], from: usize, i: u64)
         place,
         b"0 rwp_transform_type[#]|@t\n\
         0 rwp_guard_band_flag[#]|no guard bands|guard bands\n\
-        0 rwp_proj_region_width[#]\n\
-        0 rwp_proj_region_height[#]\n\
-        0 rwp_proj_region_top[#]\n\
-        0 rwp_proj_region_left[#]\n\
-        0 rwp_packed_region_width[#]\n\
-        0 rwp_packed_region_height[#]\n\
-        0 rwp_packed_region_top[#]\n\
-        0 rwp_packed_region_left[#]\n\
-        1 rwp_left_guard_band_width[#]\n\
-        1 rwp_right_guard_band_width[#]\n\
-        1 rwp_top_guard_band_height[#]\n\
-        1 rwp_bottom_guard_band_height[#]\n\
+        0 rwp_proj_region_width[#]|@j\n\
+        0 rwp_proj_region_height[#]|@j\n\
+        0 rwp_proj_region_top[#]|top row, in @j\n\
+        0 rwp_proj_region_left[#]|leftmost column, in @j\n\
+        0 rwp_packed_region_width[#]|@k\n\
+        0 rwp_packed_region_height[#]|@k\n\
+        0 rwp_packed_region_top[#]|top row, in @k\n\
+        0 rwp_packed_region_left[#]|leftmost column, in @k\n\
+        1 rwp_left_guard_band_width[#]|@k\n\
+        1 rwp_right_guard_band_width[#]|@k\n\
+        1 rwp_top_guard_band_height[#]|@k\n\
+        1 rwp_bottom_guard_band_height[#]|@k\n\
         1 rwp_guard_band_not_used_for_pred_flag[#]|pictures may be predicted from them|no picture is predicted from them\n\
-        1 rwp_guard_band_type[#][0]|@g\n\
-        1 rwp_guard_band_type[#][1]|@g\n\
-        1 rwp_guard_band_type[#][2]|@g\n\
-        1 rwp_guard_band_type[#][3]|@g",
+        1 rwp_guard_band_type[#][0]|left edge: @g\n\
+        1 rwp_guard_band_type[#][1]|right edge: @g\n\
+        1 rwp_guard_band_type[#][2]|top edge: @g\n\
+        1 rwp_guard_band_type[#][3]|bottom edge: @g",
     );
 }
 
@@ -66,11 +66,11 @@ pub fn region_wise(style: Style, row: &[u64]) {
         b"0 rwp_cancel_flag|@c\n\
         1 rwp_persistence_flag|@p\n\
         1 rwp_constituent_picture_matching_flag|the regions hold for the whole picture|the regions hold for each of the two frames of kind 45\n\
-        1 rwp_num_packed_regions\n\
-        1 rwp_proj_picture_width\n\
-        1 rwp_proj_picture_height\n\
-        1 rwp_packed_picture_width\n\
-        1 rwp_packed_picture_height",
+        1 rwp_num_packed_regions|regions that follow\n\
+        1 rwp_proj_picture_width|@j\n\
+        1 rwp_proj_picture_height|@j\n\
+        1 rwp_packed_picture_width|@k\n\
+        1 rwp_packed_picture_height|@k",
     );
     regions(style, row, at(row, 4));
 }

@@ -9,7 +9,7 @@ pub enum Style {
 }
 
 // What goes before a field.
-pub fn apart(style: Style) {
+pub(crate) fn apart(style: Style) {
     match style {
         Style::Line => text(b" "),
         Style::Explained => text(b"\n  "),
@@ -17,7 +17,7 @@ pub fn apart(style: Style) {
 }
 
 // How deep a field may lie to be shown: 0 is always carried, 1 where the outer condition holds, 2 where both do.
-pub fn depth(style: Style, outer: bool, inner: bool) -> u8 {
+pub(crate) fn depth(style: Style, outer: bool, inner: bool) -> u8 {
     let Style::Explained = style else {
         return b'2';
     };

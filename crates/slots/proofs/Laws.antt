@@ -5,7 +5,7 @@ use Prim.Native.Nat.{ℕ, zero, suc, _≤_, _<_}
 use native.Mathlib.Omega.{arith}
 use mathlib.Core.Bool.{Bool, true, false}
 use mathlib.Core.Path.{_≡_, refl, sym, _∙_}
-use mathlib.Core.Logic.{_≢_, _↔_, _⊎_, inr, ⊎-elim}
+use mathlib.Core.Logic.{_≢_, _↔_, inr, ⊎-elim}
 use lib.Dec.{ltb}
 use lib.ListN.{length-set, getD, replicate, List·getD-eq-default}
 use lib.Seq.{getD-set-same, getD-set-other}
@@ -25,6 +25,8 @@ use Rattle.slots.specs.Slots.{
   Eight,
   slotAt,
   withSlot,
+  Shut,
+  ButFor,
   done,
   refused,
   replaced,
@@ -102,11 +104,14 @@ start-closed n = replicate-all 8 n closedSlot
 pub shut-past : (s : Slots) (n : ℕ) → Eight s → 8 ≤ n → isOpen (slotAt s n) ≡ false
 shut-past s n e h = rw (slot-past s n e h) closed-shut
 
-apart : true ≡ false → ⊥
-apart h = let z : _≡_ {A = ℕ} 0 1 = cc in omega arith
+pub shut-off : (s : Slots) (n : ℕ) → Eight s → Shut s n → isOpen (slotAt s n) ≡ false
+shut-off s n e h = ⊎-elim (shut-past s n e) (λ o. o) h
+
+pub apart : {b : Bool} → b ≡ true → b ≡ false → ⊥
+apart t f = let z : _≡_ {A = ℕ} 0 1 = cc in omega arith
 
 pub open-within : (s : Slots) (n : ℕ) → Eight s → isOpen (slotAt s n) ≡ true → n < 8
-open-within s n e o = ⊎-elim (λ (l : n < 8). l) (λ (l : 8 ≤ n). absurd (apart (sym o ∙ shut-past s n e l))) (below n 8)
+open-within s n e o = ⊎-elim (λ (l : n < 8). l) (λ (l : 8 ≤ n). absurd (apart o (shut-past s n e l))) (below n 8)
 
 -- ---- what the calls have in common: done where b, else refused
 
@@ -114,13 +119,8 @@ abbrev pub answered : Bool → Answer
 answered b = if b then Done else Refused bySlot
 
 number-if : (b : Bool) → (answerNumber (answered b) ≡ 8) ↔ (b ≡ false)
-number-if true = (λ h. absurd (omega arith), λ h. absurd (apart h))
+number-if true = (λ h. absurd (omega arith), λ h. absurd (apart refl h))
 number-if false = (λ h. refl, λ h. refl)
-
--- t is s but for slot n
-pub record ButFor (n : ℕ) (s t : Slots) : Type 0 where
-  pub eight : Eight s → Eight t
-  pub others : (m : ℕ) → m ≢ n → slotAt t m ≡ slotAt s m
 
 pub with-but-for : (s : Slots) (n : ℕ) (x : Slot) → ButFor n s (withSlot s n x)
 with-but-for s n x = record { eight = with-eight s n x; others = λ m. slot-with-other s n m x }
@@ -172,13 +172,9 @@ there : (s : Slots) (n : ℕ) (x : Slot) → Eight s → (b : Bool) → isOpen (
 there s n x e true o = slot-with s n x e (open-within s n e o)
 there s n x e false o = refl
 
--- 01's words for 8, other than for opening
-abbrev pub Shut : Slots → ℕ → Type 0
-Shut s n = (8 ≤ n) ⊎ (isOpen (slotAt s n) ≡ false)
-
 number-shut : (s : Slots) (n : ℕ) → Eight s → (answerNumber (answered (isOpen (slotAt s n))) ≡ 8) ↔ Shut s n
 number-shut s n e =
-    (λ h. inr (number-if (isOpen (slotAt s n)) .0 h), λ h. number-if (isOpen (slotAt s n)) .1 (⊎-elim (shut-past s n e) (λ o. o) h))
+    (λ h. inr (number-if (isOpen (slotAt s n)) .0 h), λ h. number-if (isOpen (slotAt s n)) .1 (shut-off s n e h))
 
 module _ (s : Slots) (n : ℕ) (x : Slot) where
   pub replaced-answer : replaced s n x .answer ≡ answered (isOpen (slotAt s n))

@@ -1,7 +1,8 @@
 -- The eight slots, and what each call answers and leaves: 01, "Slots".
-use Prim.Native.Nat.{ℕ}
-use mathlib.Core.Bool.{Bool}
+use Prim.Native.Nat.{ℕ, _≤_}
+use mathlib.Core.Bool.{Bool, false}
 use mathlib.Core.Path.{_≡_}
+use mathlib.Core.Logic.{_≢_, _⊎_}
 use lib.Dec.{eqb, ltb}
 use lib.ListN.{length, replicate, getD, set}
 use Rattle.bits.specs.Refusals.{numberOf, bySlot}
@@ -52,6 +53,15 @@ slotAt s n = getD (s .slots) n closedSlot
 -- slot n replaced; past the eighth there is none to replace
 unfoldable pub withSlot : Slots → ℕ → Slot → Slots
 withSlot s n x = record { slots = set (s .slots) n x }
+
+-- 8, of any call but opening: there is no such slot, or it is closed
+abbrev pub Shut : Slots → ℕ → Type 0
+Shut s n = (8 ≤ n) ⊎ (isOpen (slotAt s n) ≡ false)
+
+-- t is s but for slot n
+pub record ButFor (n : ℕ) (s t : Slots) : Type 0 where
+  pub eight : Eight s → Eight t
+  pub others : (m : ℕ) → m ≢ n → slotAt t m ≡ slotAt s m
 
 -- ---- the calls
 

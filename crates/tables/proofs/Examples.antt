@@ -2,7 +2,7 @@
 -- Assumes nothing.
 use Prim.Native.Nat.{ℕ}
 use mathlib.Core.Path.{_≡_, refl}
-use mathlib.Core.List.{List, [], _∷_}
+use mathlib.Core.List.{[], _∷_}
 use Rattle.bits.specs.Refusals.{bySlot, byTable}
 use Rattle.format.specs.Syntax.{padded}
 use Rattle.frame_packing.specs.FramePacking.{noFlags, noGrid}
@@ -65,9 +65,6 @@ with45 on type matching =
       rotation = noRotation;
       regions = record { on = 1; value = packing matching };
     }
-
-abbrev row : List ℕ
-row = 1 ∷ 2 ∷ 3 ∷ 4 ∷ 5 ∷ 6 ∷ 7 ∷ 8 ∷ 9 ∷ []
 
 -- type 3: the second row is to the right by half of 100 and half of 31; quincunx is not looked at
 beside : tableOfHeld (with45 1 3 1) 18 ≡ record { answer = Rows 2; rows = 1 ∷ 2 ∷ 3 ∷ 4 ∷ 5 ∷ 6 ∷ 7 ∷ 8 ∷ 9 ∷ 51 ∷ 2 ∷ 3 ∷ 4 ∷ 20 ∷ 6 ∷ 7 ∷ 8 ∷ 9 ∷ [] }

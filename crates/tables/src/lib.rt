@@ -7,7 +7,8 @@ use rows::Tabled;
 use slots::Slots;
 ghost use mathlib.Core.Path.{_≡_};
 ghost use lib.ListN.{length};
-ghost use Rattle.rows.specs.Rows.{outcome, wrote};
+ghost use Rattle.lent.specs.Lent.{left};
+ghost use Rattle.rows.specs.Rows.{wrote};
 ghost use Rattle.tables.specs.Table.{splitOf, tableOfHeld, tableIn};
 
 // How the rows are split, where a table can be made.
@@ -37,7 +38,7 @@ fn split_of(matching: u8, packing: HeldFramePacking) -> Way
 
 // The table of what is held.
 fn table_of(held: Held, lent: &mut [u64]) -> Tabled
-    ensures { λ r. ⌜ outcome r (now (lent .exit)) ≡ wrote (tableOfHeld held (length (now (lent .entry)))) (now (lent .entry)) ⌝ }
+    ensures { λ r. ⌜ left r (now (lent .exit)) ≡ wrote (tableOfHeld held (length (now (lent .entry)))) (now (lent .entry)) ⌝ }
 {
     let regions = held.regions;
     if regions.on != 1 {
@@ -54,7 +55,7 @@ fn table_of(held: Held, lent: &mut [u64]) -> Tabled
 
 // A refusal writes nothing, and the numbers past the rows stay.
 pub fn table(slots: Slots, n: u64, lent: &mut [u64]) -> Tabled
-    ensures { λ r. ⌜ outcome r (now (lent .exit)) ≡ wrote (tableIn slots n (length (now (lent .entry)))) (now (lent .entry)) ⌝ }
+    ensures { λ r. ⌜ left r (now (lent .exit)) ≡ wrote (tableIn slots n (length (now (lent .entry)))) (now (lent .entry)) ⌝ }
 {
     let here = slots.slot(n);
     if here.is_open() {

@@ -39,7 +39,7 @@ impl RegisteredRead {
     {
         match self {
             RegisteredRead::Refused(why) => why,
-            RegisteredRead::Taken(_, _) => Refusal::Short,
+            RegisteredRead::Taken(_, _) => Refusal::unasked(),
         }
     }
 }

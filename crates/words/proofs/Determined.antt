@@ -1,14 +1,9 @@
--- Each public contract determines its result: that of `bytes` the lent bytes too as it leaves them, and those of `content` and `front` the characters that they hand back.
+-- Each public contract determines its result: that of `bytes` the lent bytes too as it leaves them, and that of `content` the characters that it hands back.
 -- Assumes nothing.
-use mathlib.Core.Path.{_≡_, sym, ap, _∙_}
-use contract.Lifetimes.{Lfts}
-use denote.Triple.Clauses.{AtExit}
+use mathlib.Core.Path.{sym, _∙_}
 use denote.Ref.{now}
-use borrow.Fn.Kinds.{Dens, resT, endedOf}
-use Rattle.bits.proofs.Determined.{Determines, DeterminesAll}
-use Rattle.words.specs.Hex.{Outcome}
-use Rattle.words.proofs.hex.digit.Kinds as digit-kinds
-use Rattle.words.proofs.hex.digit.Reads as digit-reads
+use Rattle.bits.proofs.Determined.{Determines, DeterminesAll, DeterminesPart}
+use Rattle.lent.proofs.Stores.{same-left}
 use Rattle.words.proofs.hex.bytes.Kinds as bytes-kinds
 use Rattle.words.proofs.hex.bytes.Reads as bytes-reads
 use Rattle.words.proofs.number.number.Kinds as number-kinds
@@ -19,14 +14,9 @@ use Rattle.words.proofs.place.skip.Kinds as skip-kinds
 use Rattle.words.proofs.place.skip.Reads as skip-reads
 use Rattle.words.proofs.place.content.Kinds as content-kinds
 use Rattle.words.proofs.place.content.Reads as content-reads
-use Rattle.words.proofs.place.front.Kinds as front-kinds
-use Rattle.words.proofs.place.front.Reads as front-reads
-
-pub digit-determined : Determines 0 digit-kinds.ps digit-kinds.r digit-reads.Post
-digit-determined κs a x y s t p q = p .0 ∙ sym (q .0)
 
 pub bytes-determined : DeterminesAll 2 bytes-kinds.ps bytes-kinds.r (λ κs s. now (s .1 .0)) bytes-reads.Post
-bytes-determined κs a x y s t p q = let e = p ∙ sym q in (ap (λ (o : Outcome). o .answer) e, ap (λ (o : Outcome). o .lent) e)
+bytes-determined κs a x y s t p q = same-left (p ∙ sym q)
 
 pub number-determined : Determines 1 number-kinds.ps number-kinds.r number-reads.Post
 number-determined κs a x y s t p q = p ∙ sym q
@@ -37,16 +27,5 @@ find-determined κs a x y s t p q = p .0 ∙ sym (q .0)
 pub skip-determined : Determines 1 skip-kinds.ps skip-kinds.r skip-reads.Post
 skip-determined κs a x y s t p q = p .0 ∙ sym (q .0)
 
-pub content-determined :
-    (κs : Lfts 1) (a : Dens κs content-kinds.ps) (x y : resT content-kinds.r κs .Denot) (s t : AtExit (endedOf 1 content-kinds.ps content-kinds.r) κs)
-    → content-reads.Post κs a x s
-    → content-reads.Post κs a y t
-    → now x ≡ now y
+pub content-determined : DeterminesPart 1 content-kinds.ps content-kinds.r (λ κs x. now x) content-reads.Post
 content-determined κs a x y s t p q = p ∙ sym q
-
-pub front-determined :
-    (κs : Lfts 1) (a : Dens κs front-kinds.ps) (x y : resT front-kinds.r κs .Denot) (s t : AtExit (endedOf 1 front-kinds.ps front-kinds.r) κs)
-    → front-reads.Post κs a x s
-    → front-reads.Post κs a y t
-    → now x ≡ now y
-front-determined κs a x y s t p q = p ∙ sym q

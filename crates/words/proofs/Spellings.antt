@@ -15,18 +15,19 @@ use Rattle.words.specs.declared.hex.Hex.{Hex}
 use Rattle.words.specs.declared.hex.Hex.the-variants.{Bytes, Odd, Long}
 use Rattle.words.specs.declared.hex.Paired.{Paired}
 use Rattle.words.specs.declared.hex.Paired.the-variants.{Byte, Wrong}
-use Rattle.words.specs.Hex.{pairOf, Spelling, ends, onward, spelling, Outcome, outcome, into}
+use Rattle.lent.specs.Lent.{Left, left}
+use Rattle.words.specs.Hex.{pairOf, Spelling, ends, onward, spelling, into}
 
 -- behind n bytes that are written already
-intoAt : ℕ → List ℕ → Spelling → Outcome
-intoAt n lent t = outcome (cond (leb (n + length (t .bytes)) (length lent)) (t .ending) Long) (sets lent n (t .bytes))
+intoAt : ℕ → List ℕ → Spelling → Left Hex
+intoAt n lent t = left (cond (leb (n + length (t .bytes)) (length lent)) (t .ending) Long) (sets lent n (t .bytes))
 
 -- what is left to do at place i
-pub left : List ℕ → ℕ → ℕ → List ℕ → Outcome
-left s i n lent = intoAt n lent (spelling i n (drop i s))
+pub still : List ℕ → ℕ → ℕ → List ℕ → Left Hex
+still s i n lent = intoAt n lent (spelling i n (drop i s))
 
-pub started : (s lent : List ℕ) → left s 0 0 lent ≡ into lent (spelling 0 0 s)
-unfolding left intoAt into
+pub started : (s lent : List ℕ) → still s 0 0 lent ≡ into lent (spelling 0 0 s)
+unfolding still intoAt into
 started s lent = rw zero-add
 
 -- ---- the definition at a space, at a last character, and at two
@@ -47,7 +48,7 @@ paired i n a b rest p m e = rw (ne-eqb a 32 m, e)
 
 -- ---- where it ends
 
-ended : (n : ℕ) (lent : List ℕ) (e : Hex) → n ≤ length lent → intoAt n lent (ends e) ≡ outcome e lent
+ended : (n : ℕ) (lent : List ℕ) (e : Hex) → n ≤ length lent → intoAt n lent (ends e) ≡ left e lent
 unfolding intoAt
 ended n lent e h = rw (add-zero, le-leb n (length lent) h)
 
@@ -55,7 +56,7 @@ sets-out : (l vs : List ℕ) (n : ℕ) → length l ≤ n → sets l n vs ≡ l
 sets-out l [] n h = refl
 sets-out l (v ∷ vs) n h = rw (set-out l n v h) (sets-out l vs (suc n) (omega arith))
 
-full : (n b : ℕ) (lent : List ℕ) (t : Spelling) → length lent ≤ n → intoAt n lent (onward (Byte b) t) ≡ outcome Long lent
+full : (n b : ℕ) (lent : List ℕ) (t : Spelling) → length lent ≤ n → intoAt n lent (onward (Byte b) t) ≡ left Long lent
 unfolding intoAt onward
 full n b lent t h =
     let l : length lent < n + suc (length (t .bytes)) = omega arith in
@@ -73,38 +74,38 @@ cons-at : (s : List ℕ) (i : ℕ) → i < length s → drop i s ≡ getD s i 0 
 cons-at s i h = rw add-one (drop-cons s i 0 h)
 
 module _ (s : List ℕ) (i n : ℕ) (lent : List ℕ) where
-  pub over : length s ≤ i → n ≤ length lent → left s i n lent ≡ outcome (Bytes n) lent
-  unfolding left spelling
+  pub over : length s ≤ i → n ≤ length lent → still s i n lent ≡ left (Bytes n) lent
+  unfolding still spelling
   over l h = rw (drop-of-length-le s l) (ended n lent (Bytes n) h)
 
   module _ (h : i < length s) where
-    pub at-space : getD s i 0 ≡ 32 → left s i n lent ≡ left s (i + 1) n lent
-    unfolding left
+    pub at-space : getD s i 0 ≡ 32 → still s i n lent ≡ still s (i + 1) n lent
+    unfolding still
     at-space e = ap (intoAt n lent) (ap (spelling i n) (cons-at s i h) ∙ spaced i n _ _ e)
 
     module _ (m : getD s i 0 ≡ 32 → ⊥) where
-      pub at-last : length s ≤ i + 1 → n ≤ length lent → left s i n lent ≡ outcome Odd lent
-      unfolding left
+      pub at-last : length s ≤ i + 1 → n ≤ length lent → still s i n lent ≡ left Odd lent
+      unfolding still
       at-last l k =
           let one = cons-at s i h ∙ ap (λ (t : List ℕ). getD s i 0 ∷ t) (drop-of-length-le s l) in
           ap (intoAt n lent) (ap (spelling i n) one ∙ lone i n _ m) ∙ ended n lent Odd k
 
       module _ (j : i + 1 < length s) where
         at-pair : (p : Paired) → p ≡ pairOf i (getD s i 0) (getD s (i + 1) 0) →
-            left s i n lent ≡ intoAt n lent (onward p (spelling (i + 2) (n + 1) (drop (i + 2) s)))
-        unfolding left
+            still s i n lent ≡ intoAt n lent (onward p (spelling (i + 2) (n + 1) (drop (i + 2) s)))
+        unfolding still
         at-pair p e =
             let next : i + 1 + 1 ≡ i + 2 = omega arith in
             let two = cons-at s i h ∙ ap (λ (t : List ℕ). getD s i 0 ∷ t) (rw next at (cons-at s (i + 1) j)) in
             ap (intoAt n lent) (ap (spelling i n) two ∙ paired i n _ _ _ p m e)
 
-        pub at-wrong : (e : Hex) → Wrong e ≡ pairOf i (getD s i 0) (getD s (i + 1) 0) → n ≤ length lent → left s i n lent ≡ outcome e lent
+        pub at-wrong : (e : Hex) → Wrong e ≡ pairOf i (getD s i 0) (getD s (i + 1) 0) → n ≤ length lent → still s i n lent ≡ left e lent
         unfolding onward
         at-wrong e p k = at-pair (Wrong e) p ∙ ended n lent e k
 
-        pub at-full : (b : ℕ) → Byte b ≡ pairOf i (getD s i 0) (getD s (i + 1) 0) → length lent ≤ n → left s i n lent ≡ outcome Long lent
+        pub at-full : (b : ℕ) → Byte b ≡ pairOf i (getD s i 0) (getD s (i + 1) 0) → length lent ≤ n → still s i n lent ≡ left Long lent
         at-full b p k = at-pair (Byte b) p ∙ full n b lent _ k
 
-        pub at-byte : (b : ℕ) → Byte b ≡ pairOf i (getD s i 0) (getD s (i + 1) 0) → left s i n lent ≡ left s (i + 2) (n + 1) (set lent n b)
-        unfolding left
+        pub at-byte : (b : ℕ) → Byte b ≡ pairOf i (getD s i 0) (getD s (i + 1) 0) → still s i n lent ≡ still s (i + 2) (n + 1) (set lent n b)
+        unfolding still
         at-byte b p = at-pair (Byte b) p ∙ stored n b lent _

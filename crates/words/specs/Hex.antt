@@ -5,6 +5,7 @@ use mathlib.Core.List.{List, [], _∷_}
 use lib.Dec.{eqb, ltb, leb}
 use lib.ListN.{length}
 use lib.Seq.{sets}
+use Rattle.lent.specs.Lent.{Left, left}
 use Rattle.words.specs.declared.hex.Hex.{Hex}
 use Rattle.words.specs.declared.hex.Hex.the-variants.{Bytes, Odd, Foreign, Long}
 use Rattle.words.specs.declared.hex.Paired.{Paired}
@@ -48,14 +49,6 @@ spelling i n [] = ends (Bytes n)
 spelling i n (a ∷ []) = ends (cond (eqb a 32) (Bytes n) Odd)
 spelling i n (a ∷ b ∷ rest) = cond (eqb a 32) (spelling (i + 1) n (b ∷ rest)) (onward (pairOf i a b) (spelling (i + 2) (n + 1) rest))
 
--- what a call answers, and the lent bytes as it leaves them
-pub record Outcome : Type 0 where
-  pub answer : Hex
-  pub lent : List ℕ
-
-abbrev pub outcome : Hex → List ℕ → Outcome
-outcome r lent = record { answer = r; lent = lent }
-
 -- the bytes over the front of what is lent, as many as there is room for
-unfoldable pub into : List ℕ → Spelling → Outcome
-into lent t = outcome (cond (leb (length (t .bytes)) (length lent)) (t .ending) Long) (sets lent 0 (t .bytes))
+unfoldable pub into : List ℕ → Spelling → Left Hex
+into lent t = left (cond (leb (length (t .bytes)) (length lent)) (t .ending) Long) (sets lent 0 (t .bytes))

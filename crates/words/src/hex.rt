@@ -1,10 +1,11 @@
 // Bytes in hex.
 ghost use mathlib.Core.Path.{_≡_};
 ghost use Prim.Native.Nat.{_<_};
-ghost use Rattle.words.specs.Hex.{digitOf, pairOf, spelling, outcome, into};
+ghost use Rattle.lent.specs.Lent.{left};
+ghost use Rattle.words.specs.Hex.{digitOf, pairOf, spelling, into};
 
 // What a character spells: a digit's value, or 16 where it is none.
-pub fn digit(b: u8) -> u8
+fn digit(b: u8) -> u8
     ensures { λ r. ⌜ r ≡ digitOf b ⌝ }
     ensures { λ r. ⌜ r < 17 ⌝ }
 {
@@ -53,7 +54,7 @@ fn pair(i: usize, a: u8, b: u8) -> Paired
 
 // The bytes that a text spells; there may be spaces between them.
 pub fn bytes(s: &[u8], out: &mut [u8]) -> Hex
-    ensures { λ r. ⌜ outcome r (now (out .exit)) ≡ into (now (out .entry)) (spelling 0 0 (now (s .entry))) ⌝ }
+    ensures { λ r. ⌜ left r (now (out .exit)) ≡ into (now (out .entry)) (spelling 0 0 (now (s .entry))) ⌝ }
 {
     let mut i = 0;
     let mut n = 0;

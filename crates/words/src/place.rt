@@ -1,7 +1,7 @@
 // Places in a text.
 ghost use mathlib.Core.Path.{_≡_};
 ghost use Prim.Native.Nat.{_+_, _≤_};
-ghost use lib.ListN.{length, take, drop};
+ghost use lib.ListN.{length, drop};
 ghost use Rattle.bytes.specs.Bytes.{indexOf, slice};
 ghost use Rattle.words.specs.Place.{run, trimmedOf, contentOf};
 
@@ -28,16 +28,6 @@ pub fn skip(s: &[u8], from: usize, b: u8) -> usize
         i += 1;
     }
     i
-}
-
-// The first n of a text; all of it where there are no more.
-pub fn front(s: &[u8], n: usize) -> &[u8]
-    ensures { λ r. ⌜ now r ≡ take n (now (s .entry)) ⌝ }
-{
-    if n < s.len() {
-        return &s[..n];
-    }
-    s
 }
 
 // The length without the spaces at the end.

@@ -5,7 +5,8 @@ use Prim.Native.Nat.{_<_}
 use native.Mathlib.Omega.{arith}
 use borrow.Author.Needs.{needs}
 use Rattle.regions.specs.List.{most}
-use Rattle.rows.proofs.TableLaws.{Countable, no-table, counted-whole, counted-beside, counted-below}
+use Rattle.rows.specs.Rows.{Countable}
+use Rattle.rows.proofs.TableLaws.{no-table, counted-whole, counted-beside, counted-below}
 use Rattle.rows.proofs.write.Statement.{statement}
 use Rattle.rows.proofs.write.Tie as tie
 

@@ -2,11 +2,11 @@
 -- Assumes nothing.
 use mathlib.Core.Path.{sym, ap, _∙_}
 use native.Mathlib.Omega.{arith}
-use denote.Ref.{now}
 use lib.ListN.{length-take}
 use Rattle.bits.specs.Refusals as refusals
-use Rattle.answers.specs.Answer.{outcomeNumber, numberOf}
-use Rattle.reader.proofs.ByEntry.{when-unlisted, when-oversized, when-payload}
+use Rattle.answers.specs.Answer.{numberOf}
+use Rattle.entry.proofs.EntryLaws.{payload-limit}
+use Rattle.reader.proofs.Calls.{by-entry}
 use Rattle.verdict.proofs.number.Statement.{statement}
 use Rattle.verdict.proofs.number.Tie as tie
 
@@ -14,26 +14,18 @@ returns : tie.Need-returns
 returns c =
     let told = c .before .before in
     c .number .ensures ∙ ap refusals.numberOf (c .before .kind .ensures)
-    ∙ sym (ap numberOf (when-unlisted _ _ _ (told .before .before .judged .ensures) (told .enum-told .given .1)))
+    ∙ sym (ap numberOf (by-entry _ _ _ (sym (told .before .before .judged .ensures) ∙ told .enum-told .given .1)))
 
 returns-2 : tie.Need-returns-2
 returns-2 c =
     let told = c .before .before in
     c .number2 .ensures ∙ ap refusals.numberOf (c .before .size .ensures)
-    ∙ sym (ap numberOf (when-oversized _ _ _ (told .before .before .judged .ensures) (told .enum-told2 .given .1)))
-
-front-requires : tie.Need-front-requires
-front-requires c κs =
-    let told = c .before in
-    let args = told .before .before .before .before .args in
-    let fits = when-payload (args .kind) (args .size) (now (args .bytes)) (told .before .before .judged .ensures) (told .entry .given .1) .1 in
-    omega (arith, fits)
+    ∙ sym (ap numberOf (by-entry _ _ _ (sym (told .before .before .judged .ensures) ∙ told .enum-told2 .given .1)))
 
 outcome-of-requires : tie.Need-outcome-of-requires
 outcome-of-requires c κs =
     let told = c .before .before in
-    let args = told .before .before .before .before .args in
-    let fits = when-payload (args .kind) (args .size) (now (args .bytes)) (told .before .before .judged .ensures) (told .entry .given .1) .0 in
+    let fits = payload-limit _ _ _ (sym (told .before .before .judged .ensures) ∙ told .entry .given .1) in
     rw (c .front .ensures) (rw (length-take) (omega (arith, fits)))
 
 returns-3 : tie.Need-returns-3
@@ -41,7 +33,7 @@ returns-3 c =
     let told = c .before .before .before .before in
     c .number3 .ensures
     ∙ rw (c .before .outcome-of .ensures, c .before .before .front .ensures)
-    (sym (ap numberOf (when-payload _ _ _ (told .before .before .judged .ensures) (told .entry .given .1) .2)))
+    (sym (ap numberOf (by-entry _ _ _ (sym (told .before .before .judged .ensures) ∙ told .entry .given .1))))
 
 pub number-spec : {M : Type 1} → statement M
 number-spec =
@@ -55,7 +47,7 @@ number-spec =
     (λ c κs. tt)
     (λ c κs. tt)
     (λ c. c .match .keys3)
-    front-requires
+    (λ c κs. tt)
     outcome-of-requires
     (λ c κs. tt)
     returns

@@ -1,41 +1,33 @@
 -- `reader::payload::read` meets its contract: 1, then 2, then what the payload comes to.
 -- Assumes nothing.
-use mathlib.Core.Path.{sym}
+use mathlib.Core.Path.{sym, _∙_}
 use native.Mathlib.Omega.{arith}
-use denote.Ref.{now}
 use lib.ListN.{length-take}
-use Rattle.reader.proofs.ByEntry.{when-unlisted, when-oversized, when-payload}
+use Rattle.entry.proofs.EntryLaws.{payload-limit}
+use Rattle.reader.proofs.Calls.{by-entry}
 use Rattle.reader.proofs.payload.read.Statement.{statement}
 use Rattle.reader.proofs.payload.read.Tie as tie
 
 returns : tie.Need-returns
 returns c =
     let told = c .before in
-    rw (c .unknown .ensures) (sym (when-unlisted _ _ _ (told .before .before .judged .ensures) (told .enum-told .given .1)))
+    rw (c .unknown .ensures) (sym (by-entry _ _ _ (sym (told .before .before .judged .ensures) ∙ told .enum-told .given .1)))
 
 returns-2 : tie.Need-returns-2
 returns-2 c =
     let told = c .before .before .before in
-    rw (c .refused .ensures, c .before .size .ensures) (sym (when-oversized _ _ _ (told .before .before .judged .ensures) (told .entry .given .1)))
-
-front-requires : tie.Need-front-requires
-front-requires c κs =
-    let told = c .before in
-    let args = told .before .before .before .before .args in
-    let fits = when-payload (args .kind) (args .size) (now (args .bytes)) (told .before .before .judged .ensures) (told .entry2 .given .1) .1 in
-    omega (arith, fits)
+    rw (c .refused .ensures, c .before .size .ensures) (sym (by-entry _ _ _ (sym (told .before .before .judged .ensures) ∙ told .entry .given .1)))
 
 of-kind-requires : tie.Need-of-kind-requires
 of-kind-requires c κs =
     let told = c .before .before in
-    let args = told .before .before .before .before .args in
-    let fits = when-payload (args .kind) (args .size) (now (args .bytes)) (told .before .before .judged .ensures) (told .entry2 .given .1) .0 in
+    let fits = payload-limit _ _ _ (sym (told .before .before .judged .ensures) ∙ told .entry2 .given .1) in
     rw (c .front .ensures) (rw (length-take) (omega (arith, fits)))
 
 returns-3 : tie.Need-returns-3
 returns-3 c =
     let told = c .before .before .before in
-    rw (c .of-kind .ensures, c .before .front .ensures) (sym (when-payload _ _ _ (told .before .before .judged .ensures) (told .entry2 .given .1) .2))
+    rw (c .of-kind .ensures, c .before .front .ensures) (sym (by-entry _ _ _ (sym (told .before .before .judged .ensures) ∙ told .entry2 .given .1)))
 
 pub read-spec : {M : Type 1} → statement M
 read-spec =
@@ -50,6 +42,6 @@ read-spec =
     (λ c κs. tt)
     returns-2
     (λ c. c .match .keys3)
-    front-requires
+    (λ c κs. tt)
     of-kind-requires
     returns-3)

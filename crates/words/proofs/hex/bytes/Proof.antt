@@ -6,13 +6,13 @@ use lib.ListN.{length, length-set}
 use native.Mathlib.Omega.{arith}
 use borrow.Author.Needs.{needs}
 use Rattle.words.specs.Hex.{spelling, into}
-use Rattle.words.proofs.Spellings.{left, started, over, at-space, at-last, at-wrong, at-full, at-byte}
+use Rattle.words.proofs.Spellings.{still, started, over, at-space, at-last, at-wrong, at-full, at-byte}
 use Rattle.words.proofs.hex.bytes.Statement.{statement}
 use Rattle.words.proofs.hex.bytes.Tie as tie
 
 abbrev Inv-loop : tie.InvT-loop
 Inv-loop s out₀ i₀ n₀ out i n =
-    (length out ≡ length out₀) × (n ≤ length out) × (left s i n out ≡ into out₀ (spelling 0 0 s))
+    (length out ≡ length out₀) × (n ≤ length out) × (still s i n out ≡ into out₀ (spelling 0 0 s))
 
 abbrev μ-loop : tie.MeasureT-loop
 μ-loop s out₀ i₀ n₀ out i n = length s - i

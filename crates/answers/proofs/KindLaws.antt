@@ -1,0 +1,108 @@
+-- The nine kinds by their numbers: a number names a kind exactly where it is the kind's own, and an answer is of one kind, with one record.
+-- Assumes nothing.
+use Prim.Native.Nat.{ℕ}
+use mathlib.Core.Path.{_≡_, refl, sym, ap, _∙_}
+use mathlib.Core.Logic.{_≢_, _↔_}
+use mathlib.Core.Bool.{Bool, true, false, cond}
+use mathlib.Core.List.{List, [], _∷_}
+use native.Mathlib.Omega.{arith}
+use borrow.Author.Tests.{eqb-true}
+use lib.Dec.{eqb}
+use Rattle.answers.specs.Listed.{Record, number, nine, namedIn, named}
+use Rattle.answers.specs.Answer.{messageOf, made}
+use Rattle.answers.specs.declared.kind.Kind.{Kind}
+use Rattle.answers.specs.declared.kind.Kind.the-variants as kinds
+use Rattle.answers.specs.declared.kind.Named.{Named}
+use Rattle.answers.specs.declared.kind.Named.the-variants.{Listed, Unlisted}
+use Rattle.answers.specs.declared.Answer.{Answer}
+use Rattle.answers.specs.declared.Outcome.{Outcome}
+use Rattle.answers.specs.declared.Message.{Message}
+use Rattle.answers.specs.declared.Message.the-variants as message
+
+-- ---- a number names a kind exactly where it is the kind's own
+
+pub named-of : (k : Kind) → named (number k) ≡ Listed k
+unfolding named
+named-of kinds.FramePacking = refl
+named-of kinds.Orientation = refl
+named-of kinds.Equirectangular = refl
+named-of kinds.Rotation = refl
+named-of kinds.RegionWise = refl
+named-of kinds.Alpha = refl
+named-of kinds.Depth = refl
+named-of kinds.Registered = refl
+named-of kinds.Unregistered = refl
+
+same-kind : {k j : Kind} → Listed k ≡ Listed j → k ≡ j
+same-kind e = cc
+
+pub one-kind : (k j : Kind) → number k ≡ number j → k ≡ j
+one-kind k j e = same-kind (sym (named-of k) ∙ ap named e ∙ named-of j)
+
+listed-in : (ks : List Kind) (n : ℕ) {k : Kind} → namedIn ks n ≡ Listed k → n ≡ number k
+listed-in [] n e = let z : _≡_ {A = ℕ} 0 1 = cc in absurd (omega arith)
+listed-in (j ∷ ks) n {k} e = go (eqb n (number j)) refl (listed-in ks n) e
+  where
+    go : (b : Bool) → eqb n (number j) ≡ b → (namedIn ks n ≡ Listed k → n ≡ number k) → cond b (Listed j) (namedIn ks n) ≡ Listed k → n ≡ number k
+    go true h later e = eqb-true n (number j) h ∙ ap number (same-kind e)
+    go false h later e = later e
+
+module _ (n : ℕ) where
+  pub named-iff : (k : Kind) → (named n ≡ Listed k) ↔ (n ≡ number k)
+  unfolding named
+  named-iff k = (listed-in nine n, λ e. ap named e ∙ named-of k)
+
+  pub unnamed-iff : (named n ≡ Unlisted) ↔ ((k : Kind) → n ≢ number k)
+  unnamed-iff = (apart, none)
+    where
+      apart : named n ≡ Unlisted → (k : Kind) → n ≢ number k
+      apart e k h = let l : Listed k ≡ Unlisted = sym (named-iff k .1 h) ∙ e in let z : _≡_ {A = ℕ} 0 1 = cc in omega arith
+
+      none : ((k : Kind) → n ≢ number k) → named n ≡ Unlisted
+      none h = go (named n) refl
+        where
+          go : (x : Named) → named n ≡ x → x ≡ Unlisted
+          go Unlisted e = refl
+          go (Listed k) e = absurd (h k (named-iff k .0 e))
+
+-- ---- an answer is of one kind, with one record
+
+abbrev tag : Message → ℕ
+tag message.Nothing = 0
+tag (message.FramePacking a) = 45
+tag (message.Orientation a) = 47
+tag (message.Equirectangular a) = 150
+tag (message.Rotation a) = 154
+tag message.RegionWise = 155
+tag (message.Alpha a) = 165
+tag message.Depth = 177
+tag (message.Registered a) = 4
+tag message.Unregistered = 5
+
+tag-of : (k : Kind) (a : Record k) → tag (messageOf k a) ≡ number k
+tag-of kinds.FramePacking a = refl
+tag-of kinds.Orientation a = refl
+tag-of kinds.Equirectangular a = refl
+tag-of kinds.Rotation a = refl
+tag-of kinds.RegionWise a = refl
+tag-of kinds.Alpha a = refl
+tag-of kinds.Depth a = refl
+tag-of kinds.Registered a = refl
+tag-of kinds.Unregistered a = refl
+
+pub made-kind : (k j : Kind) (o p : Outcome) (a : Record k) (b : Record j) (e f : ℕ) → made k o a e ≡ made j p b f → k ≡ j
+made-kind k j o p a b e f h = one-kind k j (sym (tag-of k a) ∙ ap (λ (x : Answer). tag (x .message)) h ∙ tag-of j b)
+
+made-record : (k : Kind) (o p : Outcome) (a b : Record k) (e f : ℕ) → made k o a e ≡ made k p b f → a ≡ b
+made-record kinds.FramePacking o p a b e f h = let m : message.FramePacking a ≡ message.FramePacking b = ap (λ (x : Answer). x .message) h in cc
+made-record kinds.Orientation o p a b e f h = let m : message.Orientation a ≡ message.Orientation b = ap (λ (x : Answer). x .message) h in cc
+made-record kinds.Equirectangular o p a b e f h = let m : message.Equirectangular a ≡ message.Equirectangular b = ap (λ (x : Answer). x .message) h in cc
+made-record kinds.Rotation o p a b e f h = let m : message.Rotation a ≡ message.Rotation b = ap (λ (x : Answer). x .message) h in cc
+made-record kinds.RegionWise o p a b e f h = ap (λ (x : Answer). x .regions) h
+made-record kinds.Alpha o p a b e f h = let m : message.Alpha a ≡ message.Alpha b = ap (λ (x : Answer). x .message) h in cc
+made-record kinds.Depth o p a b e f h = ap (λ (x : Answer). x .depth) h
+made-record kinds.Registered o p a b e f h = let m : message.Registered a ≡ message.Registered b = ap (λ (x : Answer). x .message) h in cc
+made-record kinds.Unregistered o p a b e f h = ap (λ (x : Answer). x .unregistered) h
+
+pub made-same : (k : Kind) (o p : Outcome) (a b : Record k) (e f : ℕ) → made k o a e ≡ made k p b f → (o ≡ p) × (a ≡ b) × (e ≡ f)
+made-same k o p a b e f h = (ap (λ (x : Answer). x .outcome) h, made-record k o p a b e f h, ap (λ (x : Answer). x .extension) h)

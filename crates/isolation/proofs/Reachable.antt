@@ -1,0 +1,91 @@
+-- The eight slots after any calls from the start: what they hold, and when their tables are refused with 9.
+-- Assumes nothing.
+use Prim.Native.Nat.{ℕ, _≤_, _<_}
+use mathlib.Core.Path.{_≡_, refl, ap, _∙_}
+use mathlib.Core.Logic.{_↔_, _⊎_, inl, inr}
+use mathlib.Core.Bool.{Bool, true, false}
+use mathlib.Core.List.{List, [], _∷_}
+use lib.Dec.{eqb}
+use borrow.Author.Tests.{eqb-true, eqb-false}
+use Rattle.bits.proofs.BitLaws.{below}
+use Rattle.answers.specs.Listed.{Record}
+use Rattle.regions.specs.declared.Packing.{Packing}
+use Rattle.rows.specs.Rows.{Countable, Uncountable, tabledNumber}
+use Rattle.rows.proofs.Outcomes.{countable-or-not}
+use Rattle.held.specs.declared.Held.{Held}
+use Rattle.slots.specs.Slots.{Eight, start, slotAt, isOpen, closedSlot, freshSlot}
+use Rattle.slots.specs.declared.Slot.{Slot}
+use Rattle.slots.specs.declared.Slots.{Slots}
+use Rattle.slots.proofs.Laws.{start-eight, start-closed, slot-past, closed-holds}
+use Rattle.tables.specs.Table.{tableIn}
+use Rattle.tables.specs.Cases.{packingOf, NoTable, none, uncounted, unpacked, other, Tableless}
+use Rattle.tables.proofs.TableLaws.{when-9}
+use Rattle.isolation.specs.Runs.{Call, opens, after, only, ends}
+use Rattle.isolation.specs.Lasting.{Lasting, regionWise, kindOf, cancelOf, ByTable, HoldsOf, history, Since}
+use Rattle.isolation.proofs.Isolation.{factors, alone, eight-after}
+use Rattle.isolation.proofs.Persistence.{holds-when, holds-iff}
+use Rattle.isolation.proofs.HeldMessages.{alone-table, table-countable}
+
+-- what one of the eight is after them: what its own calls leave of a closed slot
+own-calls : (cs : List Call) (n : ℕ) → n < 8 → slotAt (after start cs) n ≡ ends closedSlot (only n cs)
+own-calls cs n h = factors n h cs start start-eight .1 ∙ ap (λ (x : Slot). ends x (only n cs)) (start-closed n)
+
+-- a slot, and a closed one past the eighth, is what some calls leave of a closed one
+some-calls : (cs : List Call) (n : ℕ) → (xs : List Call) × (slotAt (after start cs) n ≡ ends closedSlot xs)
+some-calls cs n = go (below n 8)
+  where
+    go : (n < 8) ⊎ (8 ≤ n) → (xs : List Call) × (slotAt (after start cs) n ≡ ends closedSlot xs)
+    go (inl h) = (only n cs, own-calls cs n h)
+    go (inr h) = ([], slot-past (after start cs) n (eight-after cs start start-eight) h)
+
+-- ---- what they hold
+
+pub holds-from-start : (k : Lasting) (a : Record (kindOf k)) (cs : List Call) (n : ℕ) → n < 8
+    → HoldsOf k a (slotAt (after start cs) n) ↔ Since k a (history closedSlot (only n cs))
+holds-from-start k a cs n h = rw (own-calls cs n h) (holds-when k a closedSlot closed-holds (only n cs))
+
+-- the same since its opening, from any eight slots
+pub holds-in-run : (k : Lasting) (a : Record (kindOf k)) (n : ℕ) → n < 8 → (s : Slots) → Eight s → (cs xs : List Call) → only n cs ≡ opens n ∷ xs
+    → HoldsOf k a (slotAt (after s cs) n) ↔ Since k a (history freshSlot xs)
+holds-in-run k a n h s e cs xs p = rw (alone n h s e cs xs p .1) (holds-iff k a xs)
+
+-- each record is one that its table gives, and no cancel
+pub held-table : (k : Lasting) (a : Record (kindOf k)) (cs : List Call) (n : ℕ) → HoldsOf k a (slotAt (after start cs) n) → ByTable k a × (cancelOf k a ≡ 0)
+held-table k a cs n q = let x = some-calls cs n in alone-table k a closedSlot closed-holds (x .0) (rw (x .1) at q)
+
+-- and of kind 155 it has from 1 to 16 regions
+pub held-count : (p : Packing) (cs : List Call) (n : ℕ) → HoldsOf regionWise p (slotAt (after start cs) n) → (1 ≤ p .count) × (p .count ≤ 16)
+held-count p cs n q = let d = held-table regionWise p cs n q in let c = table-countable p (d .0) (d .1) in (c .some, c .few)
+
+-- so a table call on such slots never meets a held count of 0 or above the limit
+pub held-countable : (cs : List Call) (n : ℕ) → slotAt (after start cs) n .held .regions .on ≡ 1 → Countable (slotAt (after start cs) n .held .regions .value)
+held-countable cs n e =
+    let p : Packing = slotAt (after start cs) n .held .regions .value in
+    let c = held-count p cs n (ap (λ (on : ℕ). record { on = on; value = p }) e) in
+    record { some = c .0; few = c .1 }
+
+-- and 9 is given exactly where 01 says
+words : (h : Held) → (h .regions .on ≡ 1 → Countable (packingOf h)) → NoTable h ↔ Tableless h
+words h k = (to, back)
+  where
+    counted : Uncountable (packingOf h) → (b : Bool) → eqb (h .regions .on) 1 ≡ b → Tableless h
+    counted u true e = absurd (countable-or-not (packingOf h) (k (eqb-true _ _ e)) u)
+    counted u false e = inl (eqb-false _ _ e)
+
+    to : NoTable h → Tableless h
+    to (none o) = inl o
+    to (uncounted u) = counted u (eqb (h .regions .on) 1) refl
+    to (unpacked m f) = inr (m, inl f)
+    to (other m t u) = inr (m, inr (t, u))
+
+    back : Tableless h → NoTable h
+    back (inl o) = none o
+    back (inr (m, inl f)) = unpacked m f
+    back (inr (m, inr w)) = other m (w .0) (w .1)
+
+pub nine-from-start : (cs : List Call) (n room : ℕ)
+    → (tabledNumber (tableIn (after start cs) n room .answer) ≡ 9) ↔ ((isOpen (slotAt (after start cs) n) ≡ true) × Tableless (slotAt (after start cs) n .held))
+nine-from-start cs n room =
+    let when = when-9 (after start cs) n room in
+    let same = words (slotAt (after start cs) n .held) (held-countable cs n) in
+    (λ q. let w = when .0 q in (w .0, same .0 (w .1)), λ w. when .1 (w .0, same .1 (w .1)))

@@ -1,0 +1,67 @@
+-- How far the input is read, one byte or one chunk further. What the outside gives is how many bytes a chunk has, and which.
+use Prim.Native.Nat.{ℕ, _+_, _%_, _^_}
+use mathlib.Core.Bool.{Bool, true, false, cond}
+use mathlib.Core.List.{List}
+use lib.Dec.{eqb, ltb}
+use lib.ListN.{getD, set}
+use Rattle.script.specs.declared.input.Input.{Input}
+
+-- nothing is read
+abbrev pub begun : Input
+begun = record { at = 0; end = 0; line = 1; length = 0; whole = false; over = false }
+
+-- tabs and carriage returns count as spaces
+unfoldable pub plainByte : ℕ → ℕ
+plainByte b = cond (eqb b 9) 32 (cond (eqb b 13) 32 b)
+
+-- after a whole line the next one begins
+unfoldable pub onwardOf : Input → Input
+onwardOf i =
+    cond (i .whole)
+    (record { at = i .at; end = i .end; line = (i .line + 1) % 2 ^ 64; length = 0; whole = false; over = i .over })
+    i
+
+-- a chunk of n bytes is read; where there are none the input is over, and the line whole if it has begun
+unfoldable pub filledOf : Input → ℕ → Input
+filledOf i n =
+    cond (eqb n 0)
+    (record { at = 0; end = 0; line = i .line; length = i .length; whole = ltb 0 (i .length); over = true })
+    (record { at = 0; end = n; line = i .line; length = i .length; whole = i .whole; over = i .over })
+
+-- how far the input is read, and the line so far
+pub record Step : Type 0 where
+  pub input : Input
+  pub line : List ℕ
+
+abbrev pub step : Input → List ℕ → Step
+step i line = record { input = i; line = line }
+
+-- the line is whole
+abbrev pub ended : Input → Input
+ended i = record { at = i .at; end = i .end; line = i .line; length = i .length; whole = true; over = i .over }
+
+-- the line has one character more
+abbrev pub longer : Input → Input
+longer i = record { at = i .at; end = i .end; line = i .line; length = i .length + 1; whole = i .whole; over = i .over }
+
+-- one byte more: the end of the line, or a character of it where there is room
+unfoldable pub withByte : Input → ℕ → List ℕ → Step
+withByte i b line =
+    cond (eqb b 10) (step (ended i) line)
+    (cond (ltb (i .length) 32768) (step (longer i) (set line (i .length) (plainByte b)))
+    (step i line))
+
+-- whether there is a byte of the chunk left
+abbrev pub byteLeft : Input → Bool
+byteLeft i = cond (ltb (i .at) (i .end)) (ltb (i .at) 4096) false
+
+-- one byte of the chunk is taken
+abbrev pub taken : Input → Input
+taken i = record { at = i .at + 1; end = i .end; line = i .line; length = i .length; whole = i .whole; over = i .over }
+
+unfoldable pub further : Input → List ℕ → List ℕ → ℕ → Step
+further i chunk line n = cond (byteLeft i) (withByte (taken i) (getD chunk (i .at) 0) line) (step (filledOf i n) line)
+
+-- the byte that is next, or a chunk of n bytes
+unfoldable pub nextOf : Input → List ℕ → List ℕ → ℕ → Step
+nextOf i chunk line n = further (onwardOf i) chunk line n
