@@ -12,17 +12,17 @@ use Rattle.entry.proofs.judged.Tie as tie
 which : (c : tie.After-known-told) → named (c .before .before .before .before .args .kind) ≡ Listed (c .before .named .given .0 .0)
 which c = sym (c .before .before .before .by .ensures) ∙ c .before .named .given .1
 
-returns : tie.Need-returns
-returns c = sym (entry-unlisted _ _ _ (sym (c .before .before .by .ensures) ∙ c .enum-told .given .1))
+unlisted : tie.Need-returns
+unlisted c = sym (entry-unlisted _ _ _ (sym (c .before .before .by .ensures) ∙ c .enum-told .given .1))
 
-returns-2 : tie.Need-returns-2
-returns-2 c = sym (entry-large _ _ _ _ (which (c .before)) (omega arith))
+large : tie.Need-returns-2
+large c = sym (entry-large _ _ _ _ (which (c .before)) (omega arith))
 
-returns-3 : tie.Need-returns-3
-returns-3 c = sym (entry-long _ _ _ _ (which (c .before .before)) (omega arith) (omega arith))
+long : tie.Need-returns-3
+long c = sym (entry-long _ _ _ _ (which (c .before .before)) (omega arith) (omega arith))
 
-returns-4 : tie.Need-returns-4
-returns-4 c = sym (entry-payload _ _ _ _ (which (c .before .before)) (omega arith) (omega arith))
+payload : tie.Need-returns-4
+payload c = sym (entry-payload _ _ _ _ (which (c .before .before)) (omega arith) (omega arith))
 
 pub judged-spec : {M : Type 1} → statement M
-judged-spec = tie.close (tie.spec (λ c κs. tt) (λ c. c .match .keys1) (λ c. c .match .keys2) returns returns-2 returns-3 returns-4)
+judged-spec = tie.close (tie.spec (λ c κs. tt) (λ c. c .match .keys1) (λ c. c .match .keys2) unlisted large long payload)

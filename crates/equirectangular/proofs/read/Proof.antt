@@ -34,6 +34,9 @@ at4 c = next (at3 (c .before .before .before .before)) _ (ap byteAnswer (c .befo
 abbrev at5 : (c : tie.After-guard-band) → At Equirectangular (bandAnswer (c .guard-band .result))
 at5 c = next (at4 (c .before .before .before .before)) _ (ap byteAnswer (c .before .before .r4 .given .1)) (c .guard-band .ensures) (step-part _ _ _ _)
 
+taken : tie.Need-returns-7
+taken c = last (at5 (c .before .before .before)) (ap bandAnswer (c .before .r5 .given .1)) (step-done _ _ _)
+
 pub read-spec : {M : Type 1} → statement M
 read-spec =
     tie.close
@@ -49,4 +52,4 @@ read-spec =
     (λ c. stop (at4 (c .before .before .before)) (ap byteAnswer (c .before .enum-told4 .given .1)) (c .refusal4 .ensures))
     (λ c κs. search needs) (λ c. c .match5 .keys1) (λ c. c .match5 .keys2) (λ c κs. tt)
     (λ c. stop (at5 (c .before .before .before)) (ap bandAnswer (c .before .enum-told5 .given .1)) (c .refusal5 .ensures))
-    (λ c. last (at5 (c .before .before .before)) (ap bandAnswer (c .before .r5 .given .1)) (step-done _ _ _)))
+    taken)

@@ -9,22 +9,22 @@ use Rattle.messages.proofs.Finish.{by-refused, by-plain}
 use Rattle.messages.proofs.frame_packing.Statement.{statement}
 use Rattle.messages.proofs.frame_packing.Tie as tie
 
-returns : tie.Need-returns
-returns c =
+refused : tie.Need-returns
+refused c =
     let told = c .before .before .enum-told .given .1 in
     rw (c .refused .ensures, c .before .refusal .ensures, told)
     (by-refused FramePacking _ (c .before .before .before .before .read .ensures) (ap answer told))
 
-returns-2 : tie.Need-returns-2
-returns-2 c =
+aside : tie.Need-returns-2
+aside c =
     let tail = c .before .before .before in
     let known = tail .before .before .r .given .1 in
     rw (c .finished .ensures, tail .tail .ensures)
     (by-plain FramePacking _ (tail .before .before .before .before .read .ensures) (ap answer known) (λ o e. refl) true
     (sym (c .before .before .set-aside .ensures) ∙ c .before .if1 .taken))
 
-returns-3 : tie.Need-returns-3
-returns-3 c =
+taken : tie.Need-returns-3
+taken c =
     let tail = c .before .before .before in
     let known = tail .before .before .r .given .1 in
     rw (c .finished2 .ensures, tail .tail .ensures)
@@ -35,6 +35,6 @@ pub frame-packing-spec : {M : Type 1} → statement M
 frame-packing-spec =
     tie.close
     (tie.spec
-    (λ c κs. search needs) (λ c. c .match .keys1) (λ c. c .match .keys2) (λ c κs. tt) (λ c κs. tt) returns
-    (λ c κs. search needs) (λ c κs. tt) (λ c κs. tt) returns-2
-    (λ c κs. tt) returns-3)
+    (λ c κs. search needs) (λ c. c .match .keys1) (λ c. c .match .keys2) (λ c κs. tt) (λ c κs. tt) refused
+    (λ c κs. search needs) (λ c κs. tt) (λ c κs. tt) aside
+    (λ c κs. tt) taken)

@@ -10,8 +10,8 @@ use Rattle.messages.proofs.Finish.{by-refused, by-taken, went, stood}
 use Rattle.messages.proofs.region_wise.Statement.{statement}
 use Rattle.messages.proofs.region_wise.Tie as tie
 
-returns : tie.Need-returns
-returns c =
+refused : tie.Need-returns
+refused c =
     let told = c .before .before .enum-told .given .1 in
     let r = c .before .before .before .before in
     rw (c .refused .ensures, c .before .refusal .ensures, told)
@@ -19,8 +19,8 @@ returns c =
     (stood packingRead (λ x. x .onward) (λ x. x .«record») (λ a q. refl) (λ a q. refl) (λ r. refl) (runAt packing _ 0)
     (ap (λ (x : PackingRead). x .onward) (sym (r .read .ensures)) ∙ told)))
 
-returns-2 : tie.Need-returns-2
-returns-2 c =
+taken : tie.Need-returns-2
+taken c =
     let known = c .before .before .before .before .onward .given .1 in
     let r = c .before .before .before .before .before .before in
     rw (c .with-regions .ensures, c .before .tail .ensures, r .read .ensures)
@@ -32,5 +32,5 @@ pub region-wise-spec : {M : Type 1} → statement M
 region-wise-spec =
     tie.close
     (tie.spec
-    (λ c κs. search needs) (λ c. c .match .keys1) (λ c. c .match .keys2) (λ c κs. tt) (λ c κs. tt) returns
-    (λ c κs. search needs) (λ c κs. tt) returns-2)
+    (λ c κs. search needs) (λ c. c .match .keys1) (λ c. c .match .keys2) (λ c κs. tt) (λ c κs. tt) refused
+    (λ c κs. search needs) (λ c κs. tt) taken)

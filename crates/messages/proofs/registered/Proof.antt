@@ -8,14 +8,14 @@ use Rattle.messages.proofs.Finish.{by-refused, by-taken}
 use Rattle.messages.proofs.registered.Statement.{statement}
 use Rattle.messages.proofs.registered.Tie as tie
 
-returns : tie.Need-returns
-returns c =
+refused : tie.Need-returns
+refused c =
     let told = c .before .before .enum-told .given .1 in
     rw (c .refused .ensures, c .before .refusal .ensures, told)
     (by-refused Registered _ (c .before .before .before .before .read .ensures) (ap answer told))
 
-returns-2 : tie.Need-returns-2
-returns-2 c =
+taken : tie.Need-returns-2
+taken c =
     rw (c .plain .ensures)
     (by-taken Registered _ (c .before .before .before .before .read .ensures) (ap answer (c .before .before .r .given .1)))
 
@@ -23,5 +23,5 @@ pub registered-spec : {M : Type 1} → statement M
 registered-spec =
     tie.close
     (tie.spec
-    (λ c κs. search needs) (λ c. c .match .keys1) (λ c. c .match .keys2) (λ c κs. tt) (λ c κs. tt) returns
-    (λ c κs. tt) returns-2)
+    (λ c κs. search needs) (λ c. c .match .keys1) (λ c. c .match .keys2) (λ c κs. tt) (λ c κs. tt) refused
+    (λ c κs. tt) taken)

@@ -10,8 +10,8 @@ use Rattle.messages.proofs.Finish.{by-refused, by-taken, went, stood}
 use Rattle.messages.proofs.unregistered.Statement.{statement}
 use Rattle.messages.proofs.unregistered.Tie as tie
 
-returns : tie.Need-returns
-returns c =
+refused : tie.Need-returns
+refused c =
     let told = c .before .before .enum-told2 .given .1 in
     let r = c .before .before .before .before in
     rw (c .refused .ensures, c .before .refusal .ensures, told)
@@ -19,8 +19,8 @@ returns c =
     (stood unregisteredRead (λ x. x .onward) (λ x. x .«record») (λ a q. refl) (λ a q. refl) (λ r. refl) (runAt unregistered _ 0)
     (ap (λ (x : UnregisteredRead). x .onward) (sym (r .read .ensures)) ∙ told)))
 
-returns-2 : tie.Need-returns-2
-returns-2 c =
+taken : tie.Need-returns-2
+taken c =
     let known = c .before .before .enum-told .given .1 in
     let r = c .before .before .before .before in
     rw (c .with-unregistered .ensures, r .read .ensures)
@@ -32,5 +32,5 @@ pub unregistered-spec : {M : Type 1} → statement M
 unregistered-spec =
     tie.close
     (tie.spec
-    (λ c κs. search needs) (λ c. c .match .keys1) (λ c. c .match .keys2) (λ c κs. tt) (λ c κs. tt) returns
-    (λ c κs. tt) returns-2)
+    (λ c κs. search needs) (λ c. c .match .keys1) (λ c. c .match .keys2) (λ c κs. tt) (λ c κs. tt) refused
+    (λ c κs. tt) taken)

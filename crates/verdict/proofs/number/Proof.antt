@@ -10,14 +10,14 @@ use Rattle.reader.proofs.Calls.{by-entry}
 use Rattle.verdict.proofs.number.Statement.{statement}
 use Rattle.verdict.proofs.number.Tie as tie
 
-returns : tie.Need-returns
-returns c =
+unlisted : tie.Need-returns
+unlisted c =
     let told = c .before .before in
     c .number .ensures ∙ ap refusals.numberOf (c .before .kind .ensures)
     ∙ sym (ap numberOf (by-entry _ _ _ (sym (told .before .before .judged .ensures) ∙ told .enum-told .given .1)))
 
-returns-2 : tie.Need-returns-2
-returns-2 c =
+oversized : tie.Need-returns-2
+oversized c =
     let told = c .before .before in
     c .number2 .ensures ∙ ap refusals.numberOf (c .before .size .ensures)
     ∙ sym (ap numberOf (by-entry _ _ _ (sym (told .before .before .judged .ensures) ∙ told .enum-told2 .given .1)))
@@ -28,8 +28,8 @@ outcome-of-requires c κs =
     let fits = payload-limit _ _ _ (sym (told .before .before .judged .ensures) ∙ told .entry .given .1) in
     rw (c .front .ensures) (rw (length-take) (omega (arith, fits)))
 
-returns-3 : tie.Need-returns-3
-returns-3 c =
+payload : tie.Need-returns-3
+payload c =
     let told = c .before .before .before .before in
     c .number3 .ensures
     ∙ rw (c .before .outcome-of .ensures, c .before .before .front .ensures)
@@ -50,6 +50,6 @@ number-spec =
     (λ c κs. tt)
     outcome-of-requires
     (λ c κs. tt)
-    returns
-    returns-2
-    returns-3)
+    unlisted
+    oversized
+    payload)

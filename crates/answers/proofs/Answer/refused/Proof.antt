@@ -3,10 +3,8 @@
 use Rattle.answers.proofs.Answer.refused.Statement.{statement}
 use Rattle.answers.proofs.Answer.refused.Tie as tie
 
+returns : tie.Need-returns
+returns c = rw (c .plain .ensures, c .before .zero .ensures)
+
 pub refused-spec : {M : Type 1} → statement M
-refused-spec =
-    tie.close
-    (tie.spec
-    (λ c κs. tt)
-    (λ c κs. tt)
-    (λ c. rw (c .plain .ensures, c .before .zero .ensures)))
+refused-spec = tie.close (tie.spec (λ c κs. tt) (λ c κs. tt) returns)

@@ -3,10 +3,8 @@
 use Rattle.answers.proofs.Answer.unknown.Statement.{statement}
 use Rattle.answers.proofs.Answer.unknown.Tie as tie
 
+returns : tie.Need-returns
+returns c = rw (c .plain .ensures, c .before .kind .ensures)
+
 pub unknown-spec : {M : Type 1} → statement M
-unknown-spec =
-    tie.close
-    (tie.spec
-    (λ c κs. tt)
-    (λ c κs. tt)
-    (λ c. rw (c .plain .ensures, c .before .kind .ensures)))
+unknown-spec = tie.close (tie.spec (λ c κs. tt) (λ c κs. tt) returns)

@@ -25,8 +25,8 @@ turn c =
     let k : w .loop .k ≡ w .loop .k - 1 + 1 = omega arith in
     w .loop .inv .1 ∙ ap (λ n. judged (w .before .before .left .result) (lastOne (part (a .s .now) (a .c .at) n))) k
 
-returns : tie.Need-returns Inv-loop μ-loop
-returns c = sym (tail-none _ _ (omega arith))
+none : tie.Need-returns Inv-loop μ-loop
+none c = sym (tail-none _ _ (omega arith))
 
 loop-holds : tie.Need-loop-holds Inv-loop μ-loop
 loop-holds c =
@@ -34,14 +34,14 @@ loop-holds c =
     let some = tail-some (a .s .now) (a .c .at) (omega arith) in
     (omega arith, rw (c .before .left .ensures) some)
 
-returns-2 : tie.Need-returns-2 Inv-loop μ-loop
-returns-2 c =
+early : tie.Need-returns-2 Inv-loop μ-loop
+early c =
     let w = c .before .before in
     let a = w .before .before .before .before .args in
     sym (w .loop .inv .1 ∙ judged-early _ (part (a .s .now) (a .c .at) (w .loop .k)) (omega (arith, length-part (a .s .now) (a .c .at) (w .loop .k))))
 
-returns-3 : tie.Need-returns-3 Inv-loop μ-loop
-returns-3 c =
+found : tie.Need-returns-3 Inv-loop μ-loop
+found c =
     let w = c .before .before .before .before in
     let a = w .before .before .before .before .args in
     let one = digit-one _ (sym (c .before .bit .ensures) ∙ c .if3 .taken) in
@@ -54,9 +54,9 @@ loop-again c =
     let zero = digit-zero _ (λ h. c .if3 .left (c .before .bit .ensures ∙ h)) in
     (omega arith, turn (c .before .before .before) ∙ ap (judged _) (last-part-zero (a .s .now) (a .c .at) (w .loop .k - 1) zero))
 
-returns-4 : tie.Need-returns-4 Inv-loop μ-loop
+no-one : tie.Need-returns-4 Inv-loop μ-loop
 unfolding part lastOne
-returns-4 c =
+no-one c =
     let w = c .before in
     let a = w .before .before .before .before .args in
     let k : w .loop .k ≡ 0 = omega arith in
@@ -69,15 +69,15 @@ tail-spec =
     Inv-loop
     μ-loop
     (λ c κs. omega arith)
-    returns
+    none
     loop-holds
     (λ c. omega arith)
     (λ c. omega arith)
-    returns-2
+    early
     (λ c. omega arith)
     (λ c κs. omega arith)
     (λ c. omega arith)
-    returns-3
+    found
     (λ c. omega arith)
     loop-again
-    returns-4)
+    no-one)

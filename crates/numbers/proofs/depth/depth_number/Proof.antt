@@ -12,8 +12,8 @@ use Rattle.numbers.specs.Depth.{depthBits}
 use Rattle.numbers.proofs.depth.depth_number.Statement.{statement}
 use Rattle.numbers.proofs.depth.depth_number.Tie as tie
 
-returns : tie.Need-returns
-returns c = simp (c .if1 .taken)
+unspecified : tie.Need-returns
+unspecified c = simp (c .if1 .taken)
 
 result-is : (c : tie.After-depth-bits) → let a = c .before .before .args in
     c .depth-bits .result ≡ depthBits (a .sign) (a .exponent) (a .length-minus1 + 1) (a .mantissa)
@@ -28,8 +28,8 @@ float-from-bits-t7 c =
     subst (λ (b : ℕ). T (not (nanBits binary64 b))) (sym (result-is c))
     (no-nan (depthBits (a .sign) (a .exponent) v (a .mantissa)) (depth-finite (a .sign) (a .exponent) v (a .mantissa) m (search needs)))
 
-returns-2 : tie.Need-returns-2
-returns-2 c = simp (ne-eqb (c .before .before .args .exponent) 127 (c .before .if1 .left), result-is c)
+number : tie.Need-returns-2
+number c = simp (ne-eqb (c .before .before .args .exponent) 127 (c .before .if1 .left), result-is c)
 
 pub depth-number-spec : {M : Type 1} → statement M
-depth-number-spec = tie.close (tie.spec returns (λ c κs. search needs) float-from-bits-t7 returns-2)
+depth-number-spec = tie.close (tie.spec unspecified (λ c κs. search needs) float-from-bits-t7 number)

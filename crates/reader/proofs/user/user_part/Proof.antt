@@ -27,6 +27,12 @@ inside : (c : tie.After-known-told) → let a = c .before .before .before .befor
     (c .before .start .given .0 .0 ≤ a .size) × (a .size ≤ length (now (a .bytes)))
 inside c = let o = c .before .before .before in within _ _ _ (sym (starts o) ∙ c .before .start .given .1)
 
+none : tie.Need-returns
+none c = parts (c .before .before .before) _ (c .before .enum-told .given .1)
+
+found : tie.Need-returns-2
+found c = parts (c .before .before .before .before) _ (c .before .before .start .given .1)
+
 pub user-part-spec : {M : Type 1} → statement M
 user-part-spec =
     tie.close
@@ -36,8 +42,8 @@ user-part-spec =
     (λ c. c .match .keys1)
     (λ c. c .match .keys2)
     (λ c. search needs)
-    (λ c. parts (c .before .before .before) _ (c .before .enum-told .given .1))
+    none
     (λ c. inside c .0)
     (λ c. omega (arith, inside c .0, inside c .1))
     (λ c. omega (arith, inside c .0, inside c .1))
-    (λ c. parts (c .before .before .before .before) _ (c .before .before .start .given .1)))
+    found)
