@@ -75,7 +75,7 @@ of-element refusals.rule e = omega arith
 of-element refusals.regions e = omega arith
 
 -- no reading is answered 8
-pub answer-not-8 : (kind size : ℕ) (bytes : List ℕ) → numberOf (answerTo kind size bytes) ≡ 8 → ⊥
+answer-not-8 : (kind size : ℕ) (bytes : List ℕ) → numberOf (answerTo kind size bytes) ≡ 8 → ⊥
 answer-not-8 kind size bytes h = go (case kind size bytes)
   where
     go : Case kind size bytes → ⊥

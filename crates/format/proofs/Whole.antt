@@ -77,7 +77,7 @@ module _ {A : Type 0} where
   aside-refused : {X : Type 0} {r : Refusal} {a : A} {e : ℕ} → refused r ≡ setAside a e → X
   aside-refused h = let z : _≡_ {A = ℕ} 0 1 = cc in absurd (omega arith)
 
-  pub given-refused : {X : Type 0} {r : Refusal} (b : Bool) (a : A) (e : ℕ) → given b a e ≡ refused r → X
+  given-refused : {X : Type 0} {r : Refusal} (b : Bool) (a : A) (e : ℕ) → given b a e ≡ refused r → X
   given-refused true a e h = aside-refused (sym h)
   given-refused false a e h = taken-refused (sym h)
 

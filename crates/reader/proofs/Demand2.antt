@@ -33,19 +33,19 @@ use Rattle.reader.proofs.Calls.{to-unlisted, to-oversized, to-payload, 
 
 -- ---- what a payload s of kind k comes to
 
-pub taken-when : (k : Kind) (s : List ℕ) (a : Record k) (e : ℕ) → (readingOf k s ≡ taken a e) ↔ (Holds (form k) (bitsOf s) a e × (form k .aside a ≡ false))
+taken-when : (k : Kind) (s : List ℕ) (a : Record k) (e : ℕ) → (readingOf k s ≡ taken a e) ↔ (Holds (form k) (bitsOf s) a e × (form k .aside a ≡ false))
 unfolding readingOf
 taken-when k s a e = taken-iff (form k) (bitsOf s) a e
 
-pub aside-when : (k : Kind) (s : List ℕ) (a : Record k) (e : ℕ) → (readingOf k s ≡ setAside a e) ↔ (Holds (form k) (bitsOf s) a e × (form k .aside a ≡ true))
+aside-when : (k : Kind) (s : List ℕ) (a : Record k) (e : ℕ) → (readingOf k s ≡ setAside a e) ↔ (Holds (form k) (bitsOf s) a e × (form k .aside a ≡ true))
 unfolding readingOf
 aside-when k s a e = aside-iff (form k) (bitsOf s) a e
 
-pub stopped-when : (k : Kind) (s : List ℕ) (r : Refusal) → OfElement r → (readingOf k s ≡ refused r) ↔ Stopped (form k .table) (bitsOf s) r
+stopped-when : (k : Kind) (s : List ℕ) (r : Refusal) → OfElement r → (readingOf k s ≡ refused r) ↔ Stopped (form k .table) (bitsOf s) r
 unfolding readingOf
 stopped-when k s r o = stopped-iff (form k) (bitsOf s) r o
 
-pub tail-when : (k : Kind) (s : List ℕ) → (readingOf k s ≡ refused why.Tail) ↔ BadTail (form k) (bitsOf s)
+tail-when : (k : Kind) (s : List ℕ) → (readingOf k s ≡ refused why.Tail) ↔ BadTail (form k) (bitsOf s)
 unfolding readingOf
 tail-when k s = tail-iff (form k) (bitsOf s)
 

@@ -52,7 +52,7 @@ pub fresh-holds : freshSlot .held ≡ nothing
 unfolding freshSlot
 fresh-holds = refl
 
-pub closed-shut : isOpen closedSlot ≡ false
+closed-shut : isOpen closedSlot ≡ false
 unfolding isOpen closedSlot
 closed-shut = refl
 
@@ -74,15 +74,15 @@ pub slot-past : (s : Slots) (n : ℕ) → Eight s → 8 ≤ n → slotAt s n ≡
 unfolding slotAt
 slot-past s n e h = List·getD-eq-default (s .slots) closedSlot (omega arith)
 
-pub slot-with : (s : Slots) (n : ℕ) (x : Slot) → Eight s → n < 8 → slotAt (withSlot s n x) n ≡ x
+slot-with : (s : Slots) (n : ℕ) (x : Slot) → Eight s → n < 8 → slotAt (withSlot s n x) n ≡ x
 unfolding slotAt withSlot
 slot-with s n x e h = getD-set-same (s .slots) n x closedSlot (omega arith)
 
-pub slot-with-other : (s : Slots) (n m : ℕ) (x : Slot) → m ≢ n → slotAt (withSlot s n x) m ≡ slotAt s m
+slot-with-other : (s : Slots) (n m : ℕ) (x : Slot) → m ≢ n → slotAt (withSlot s n x) m ≡ slotAt s m
 unfolding slotAt withSlot
 slot-with-other s n m x h = getD-set-other (s .slots) n m x closedSlot h
 
-pub with-eight : (s : Slots) (n : ℕ) (x : Slot) → Eight s → Eight (withSlot s n x)
+with-eight : (s : Slots) (n : ℕ) (x : Slot) → Eight s → Eight (withSlot s n x)
 unfolding withSlot
 with-eight s n x e = length-set (s .slots) n x ∙ e
 
@@ -101,7 +101,7 @@ start-closed n = replicate-all 8 n closedSlot
 
 -- ---- 8: there is no such slot, or it is closed
 
-pub shut-past : (s : Slots) (n : ℕ) → Eight s → 8 ≤ n → isOpen (slotAt s n) ≡ false
+shut-past : (s : Slots) (n : ℕ) → Eight s → 8 ≤ n → isOpen (slotAt s n) ≡ false
 shut-past s n e h = rw (slot-past s n e h) closed-shut
 
 pub shut-off : (s : Slots) (n : ℕ) → Eight s → Shut s n → isOpen (slotAt s n) ≡ false
@@ -110,7 +110,7 @@ shut-off s n e h = ⊎-elim (shut-past s n e) (λ o. o) h
 pub apart : {b : Bool} → b ≡ true → b ≡ false → ⊥
 apart t f = let z : _≡_ {A = ℕ} 0 1 = cc in omega arith
 
-pub open-within : (s : Slots) (n : ℕ) → Eight s → isOpen (slotAt s n) ≡ true → n < 8
+open-within : (s : Slots) (n : ℕ) → Eight s → isOpen (slotAt s n) ≡ true → n < 8
 open-within s n e o = ⊎-elim (λ (l : n < 8). l) (λ (l : 8 ≤ n). absurd (apart o (shut-past s n e l))) (below n 8)
 
 -- ---- what the calls have in common: done where b, else refused
@@ -122,7 +122,7 @@ number-if : (b : Bool) → (answerNumber (answered b) ≡ 8) ↔ (b ≡ false)
 number-if true = (λ h. absurd (omega arith), λ h. absurd (apart refl h))
 number-if false = (λ h. refl, λ h. refl)
 
-pub with-but-for : (s : Slots) (n : ℕ) (x : Slot) → ButFor n s (withSlot s n x)
+with-but-for : (s : Slots) (n : ℕ) (x : Slot) → ButFor n s (withSlot s n x)
 with-but-for s n x = record { eight = with-eight s n x; others = λ m. slot-with-other s n m x }
 
 module _ (s t : Slots) where

@@ -12,11 +12,11 @@ use lib.Dec.{leb}
 use lib.ListN.{length, length-set, drop, getD, set, drop-of-length-le}
 use lib.Seq.{drop-cons, sets, set-out}
 use Rattle.words.specs.declared.hex.Hex.{Hex}
-use Rattle.words.specs.declared.hex.Hex.the-variants.{Bytes, Odd, Long}
+use Rattle.words.specs.declared.hex.Hex.the-variants.{Bytes, Long}
 use Rattle.words.specs.declared.hex.Paired.{Paired}
 use Rattle.words.specs.declared.hex.Paired.the-variants.{Byte, Wrong}
 use Rattle.lent.specs.Lent.{Left, left}
-use Rattle.words.specs.Hex.{pairOf, Spelling, ends, onward, spelling, into}
+use Rattle.words.specs.Hex.{loneOf, pairOf, Spelling, ends, onward, spelling, into}
 
 -- behind n bytes that are written already
 intoAt : ℕ → List ℕ → Spelling → Left Hex
@@ -37,7 +37,7 @@ unfolding spelling
 spaced i n a [] e = rw (eq-eqb a 32 e)
 spaced i n a (b ∷ rest) e = rw (eq-eqb a 32 e)
 
-lone : (i n a : ℕ) → (a ≡ 32 → ⊥) → spelling i n (a ∷ []) ≡ ends Odd
+lone : (i n a : ℕ) → (a ≡ 32 → ⊥) → spelling i n (a ∷ []) ≡ ends (loneOf i a)
 unfolding spelling
 lone i n a m = rw (ne-eqb a 32 m)
 
@@ -84,11 +84,11 @@ module _ (s : List ℕ) (i n : ℕ) (lent : List ℕ) where
     at-space e = ap (intoAt n lent) (ap (spelling i n) (cons-at s i h) ∙ spaced i n _ _ e)
 
     module _ (m : getD s i 0 ≡ 32 → ⊥) where
-      pub at-last : length s ≤ i + 1 → n ≤ length lent → still s i n lent ≡ left Odd lent
+      pub at-last : length s ≤ i + 1 → n ≤ length lent → still s i n lent ≡ left (loneOf i (getD s i 0)) lent
       unfolding still
       at-last l k =
           let one = cons-at s i h ∙ ap (λ (t : List ℕ). getD s i 0 ∷ t) (drop-of-length-le s l) in
-          ap (intoAt n lent) (ap (spelling i n) one ∙ lone i n _ m) ∙ ended n lent Odd k
+          ap (intoAt n lent) (ap (spelling i n) one ∙ lone i n _ m) ∙ ended n lent (loneOf i (getD s i 0)) k
 
       module _ (j : i + 1 < length s) where
         at-pair : (p : Paired) → p ≡ pairOf i (getD s i 0) (getD s (i + 1) 0) →

@@ -22,10 +22,14 @@ digitOf b =
     (cond (ltb b 103) (b - 87)
     16)))))
 
+-- a character a, at i, which no second digit follows: half a byte, or no digit
+unfoldable pub loneOf : ℕ → ℕ → Hex
+loneOf i a = cond (eqb (digitOf a) 16) (Foreign i) Odd
+
 -- a byte's digits a and b, of which a stands at i; a space is no second digit
 unfoldable pub pairOf : ℕ → ℕ → ℕ → Paired
 pairOf i a b =
-    cond (eqb b 32) (Wrong Odd)
+    cond (eqb b 32) (Wrong (loneOf i a))
     (cond (eqb (digitOf a) 16) (Wrong (Foreign i))
     (cond (eqb (digitOf b) 16) (Wrong (Foreign (i + 1)))
     (Byte (digitOf a * 16 + digitOf b))))
@@ -46,7 +50,7 @@ onward (Wrong e) t = ends e
 -- the characters from place i on, of a text that spelled n bytes before it
 unfoldable pub spelling : ℕ → ℕ → List ℕ → Spelling
 spelling i n [] = ends (Bytes n)
-spelling i n (a ∷ []) = ends (cond (eqb a 32) (Bytes n) Odd)
+spelling i n (a ∷ []) = ends (cond (eqb a 32) (Bytes n) (loneOf i a))
 spelling i n (a ∷ b ∷ rest) = cond (eqb a 32) (spelling (i + 1) n (b ∷ rest)) (onward (pairOf i a b) (spelling (i + 2) (n + 1) rest))
 
 -- the bytes over the front of what is lent, as many as there is room for

@@ -2,7 +2,7 @@
 ghost use mathlib.Core.Path.{_≡_};
 ghost use Prim.Native.Nat.{_<_};
 ghost use Rattle.lent.specs.Lent.{left};
-ghost use Rattle.words.specs.Hex.{digitOf, pairOf, spelling, into};
+ghost use Rattle.words.specs.Hex.{digitOf, loneOf, pairOf, spelling, into};
 
 // What a character spells: a digit's value, or 16 where it is none.
 fn digit(b: u8) -> u8
@@ -33,13 +33,23 @@ enum Paired {
     Wrong(Hex),
 }
 
+// What is wrong with a, at i, which no second digit follows.
+fn lone(i: usize, a: u8) -> Hex
+    ensures { λ r. ⌜ r ≡ loneOf i a ⌝ }
+{
+    if digit(a) == 16 {
+        return Hex::Foreign(i);
+    }
+    Hex::Odd
+}
+
 // The byte whose digits are a, at i, and b after it.
 fn pair(i: usize, a: u8, b: u8) -> Paired
     requires { ⌜ i < 18446744073709551615 ⌝ }
     ensures { λ r. ⌜ r ≡ pairOf i a b ⌝ }
 {
     if b == b' ' {
-        return Paired::Wrong(Hex::Odd);
+        return Paired::Wrong(lone(i, a));
     }
     let high = digit(a);
     if high == 16 {
@@ -64,7 +74,7 @@ pub fn bytes(s: &[u8], out: &mut [u8]) -> Hex
         } else {
             let next = i + 1;
             if s.len() <= next {
-                return Hex::Odd;
+                return lone(i, s[i]);
             }
             match pair(i, s[i], s[next]) {
                 Paired::Wrong(e) => return e,

@@ -27,8 +27,10 @@ loop-again c =
 
 returns : tie.Need-returns Inv-loop μ-loop
 returns c =
-    let l = c .before .before .before .before .loop in
-    sym (at-last _ (l .i) (l .n) (l .out) (search needs) (c .before .if1 .left) (search needs) (search needs)) ∙ l .inv .2
+    let two = c .before .before in
+    let l = two .before .before .before .before .loop in
+    rw (c .lone .ensures)
+    (sym (at-last _ (l .i) (l .n) (l .out) (search needs) (two .before .if1 .left) (search needs) (search needs)) ∙ l .inv .2)
 
 returns-2 : tie.Need-returns-2 Inv-loop μ-loop
 returns-2 c =
@@ -73,6 +75,8 @@ bytes-spec =
     (λ c. search needs)
     loop-again
     (λ c. search needs)
+    (λ c. search needs)
+    (λ c κs. tt)
     (λ c. search needs)
     returns
     (λ c. search needs)

@@ -4,16 +4,16 @@ use mathlib.Core.Path.{_≡_}
 use Prim.Native.Nat.{ℕ, _+_, _*_}
 use borrow.Author.Needs.{needs}
 use borrow.Author.Tests.{eq-eqb, ne-eqb}
-use Rattle.words.specs.declared.hex.Hex.the-variants.{Odd, Foreign}
+use Rattle.words.specs.declared.hex.Hex.the-variants.{Foreign}
 use Rattle.words.specs.declared.hex.Paired.the-variants.{Byte, Wrong}
-use Rattle.words.specs.Hex.{digitOf, pairOf}
+use Rattle.words.specs.Hex.{digitOf, loneOf, pairOf}
 use Rattle.words.proofs.hex.pair.Statement.{statement}
 use Rattle.words.proofs.hex.pair.Tie as tie
 
 module _ (i a b : ℕ) where
-  odd : b ≡ 32 → Wrong Odd ≡ pairOf i a b
+  no-second : b ≡ 32 → Wrong (loneOf i a) ≡ pairOf i a b
   unfolding pairOf
-  odd e = simp (eq-eqb b 32 e)
+  no-second e = simp (eq-eqb b 32 e)
 
   module _ (n : b ≡ 32 → ⊥) (high : ℕ) (h : high ≡ digitOf a) where
     first : high ≡ 16 → Wrong (Foreign i) ≡ pairOf i a b
@@ -30,7 +30,9 @@ module _ (i a b : ℕ) where
       both k = simp (ne-eqb b 32 n, ← h, ne-eqb high 16 m, ← l, ne-eqb low 16 k)
 
 returns : tie.Need-returns
-returns c = let x = c .before .args in odd (x .i) (x .a) (x .b) (c .if1 .taken)
+returns c =
+    let x = c .before .before .args in
+    rw (c .lone .ensures) (no-second (x .i) (x .a) (x .b) (c .before .if1 .taken))
 
 returns-2 : tie.Need-returns-2
 returns-2 c =
@@ -56,6 +58,7 @@ pub pair-spec : {M : Type 1} → statement M
 pair-spec =
     tie.close
     (tie.spec
+    (λ c κs. tt)
     returns
     (λ c κs. search needs)
     returns-2
