@@ -1,6 +1,5 @@
 -- `words::hex::lone` meets its contract.
 -- Assumes nothing.
-use mathlib.Core.Path.{sym, _∙_}
 use borrow.Author.Tests.{eq-eqb, ne-eqb}
 use Rattle.words.specs.Hex.{loneOf}
 use Rattle.words.proofs.hex.lone.Statement.{statement}
