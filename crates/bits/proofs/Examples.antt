@@ -1,4 +1,4 @@
--- Worked examples of 01, by computation.
+-- Worked examples of RULES 2 and 6, by computation.
 -- Assumes nothing.
 use mathlib.Core.Path.{_≡_, refl}
 use mathlib.Core.List.{[], _∷_}

@@ -6,4 +6,5 @@ pub mod IdentifierLaws
 pub mod SignedLaws
 pub mod Reading
 pub mod Determined
+pub mod Numbers
 mod Examples

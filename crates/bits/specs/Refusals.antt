@@ -3,7 +3,7 @@ use Prim.Native.Nat.{ℕ}
 use Rattle.bits.specs.declared.refusal.Refusal.{Refusal}
 use Rattle.bits.specs.declared.refusal.Refusal.the-variants.{Kind, Size, Short, Zeros, Rule, Regions, Tail, Slot, Table, Rows}
 
--- the table of 01, "Numbers a caller gets"
+-- the table of RULES 7
 abbrev pub numberOf : Refusal → ℕ
 numberOf Kind = 1
 numberOf Size = 2

@@ -7,6 +7,7 @@ use mathlib.Core.List.{List, [], _∷_, _++_}
 use lib.ListN.{length, replicate}
 use lib.Dec.{leb}
 use Rattle.bits.specs.Bits.{from}
+use Rattle.bits.specs.Refusals.{numberOf}
 use Rattle.bits.specs.declared.ending.Ending.{Ending}
 use Rattle.bits.specs.declared.ending.Ending.the-variants.{Extension, Refused}
 use Rattle.bits.specs.declared.refusal.Refusal.the-variants.{Tail}
@@ -24,6 +25,11 @@ further false none = none
 unfoldable pub lastOne : List Bool → Last
 lastOne [] = none
 lastOne (b ∷ w) = further b (lastOne w)
+
+-- the number of RULES 7: 0, with the extension's length, or the refusal's
+abbrev pub endingNumber : Ending → ℕ
+endingNumber (Extension e) = 0
+endingNumber (Refused r) = numberOf r
 
 -- the last one bit must exist and lie in the final byte; the bits before it are the extension
 abbrev pub judged : ℕ → Last → Ending
