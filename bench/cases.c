@@ -1,5 +1,17 @@
 /* What is measured. Each kind has a small, a usual and a largest payload, and refused ones. */
+#include "../host/bruskelde.h"
 #include "cases.h"
+
+/* The limits, as they stand in a payload's text: the most regions and listed numbers, one less, and one more. */
+#define MOST_REGIONS 16
+#define REGIONS_LESS_ONE 15
+#define REGIONS_AND_ONE 17
+#define MOST_LISTED 63
+#define LISTED_LESS_ONE 62
+_Static_assert(MOST_REGIONS == BRUSKELDE_MOST_REGIONS && REGIONS_LESS_ONE == MOST_REGIONS - 1 && REGIONS_AND_ONE == MOST_REGIONS + 1, "regions");
+_Static_assert(MOST_LISTED == BRUSKELDE_MOST_LISTED && LISTED_LESS_ONE == MOST_LISTED - 1, "list");
+#define DIGITS(number) #number
+#define TEXT(number) DIGITS(number)
 
 #define COUNT(list) (sizeof(list) / sizeof(list)[0])
 
@@ -13,11 +25,13 @@
 #define PLACES "32:1920 32:960 32:480 32:240 16:960 16:480 16:240 16:120 "
 #define REGION "4:0 3:2 1:0 " PLACES
 #define GUARDED_REGION(last_type) "4:0 3:2 1:1 " PLACES "8:8 8:8 8:4 8:4 1:0 3:1 3:2 3:3 3:" last_type " 3:0 "
-#define LARGEST_REGIONS(matching) REGIONS(matching, "16") "16*[" GUARDED_REGION("4") "]"
+#define LARGEST_REGIONS(matching) REGIONS(matching, TEXT(MOST_REGIONS)) TEXT(MOST_REGIONS) "*[" GUARDED_REGION("4") "]"
+#define ALL_BUT_ONE_REGION REGIONS("0", TEXT(MOST_REGIONS)) TEXT(REGIONS_LESS_ONE) "*[" GUARDED_REGION("4") "]"
 #define MONO LARGEST_REGIONS("0")
 #define STEREO LARGEST_REGIONS("1")
 
 #define FOUR_ELEMENTS "ue:5 4*[1:1 7:60 5:31 32:3735928559] "
+#define FOUR_AND_LIST "4:15 ue:3 " FOUR_ELEMENTS "ue:" TEXT(LISTED_LESS_ONE) " "
 #define FOUR_TINY_ELEMENTS "ue:5 4*[1:1 7:0 5:31 32:1] "
 
 const struct payload_case payload_cases[] = {
@@ -53,10 +67,10 @@ const struct payload_case payload_cases[] = {
     {155, "cancelled", 0, "1:1 $"},
     {155, "1 region", 0, REGIONS("0", "1") REGION},
     {155, "4 regions", 0, REGIONS("0", "4") "4*[" REGION "]"},
-    {155, "16 regions, guard bands", 0, MONO},
-    {155, "16th region missing", 3, REGIONS("0", "16") "15*[" GUARDED_REGION("4") "]"},
-    {155, "16th guard type 0", 5, REGIONS("0", "16") "15*[" GUARDED_REGION("4") "]" GUARDED_REGION("0")},
-    {155, "17 regions", 6, REGIONS("0", "17") "17*[" REGION "]"},
+    {155, TEXT(MOST_REGIONS) " regions, guard bands", 0, MONO},
+    {155, "last region missing", 3, ALL_BUT_ONE_REGION},
+    {155, "last guard type 0", 5, ALL_BUT_ONE_REGION GUARDED_REGION("0")},
+    {155, TEXT(REGIONS_AND_ONE) " regions", 6, REGIONS("0", TEXT(REGIONS_AND_ONE)) TEXT(REGIONS_AND_ONE) "*[" REGION "]"},
     {165, "cancelled", 0, "1:1 $"},
     {165, "8 bits", 0, "1:0 3:1 3:0 9:0 9:255 1:0 1:0 $"},
     {165, "15 bits, clipped", 0, "1:0 3:2 3:7 16:0 16:65535 1:1 1:1 1:1 $"},
@@ -65,8 +79,8 @@ const struct payload_case payload_cases[] = {
     {177, "one element", 0, "4:8 ue:0 1:0 7:31 5:0 1:1 $"},
     {177, "four elements", 0, "4:15 ue:0 " FOUR_ELEMENTS "$"},
     {177, "four of exponent 0", 0, "4:15 ue:0 " FOUR_TINY_ELEMENTS "$"},
-    {177, "four, 63 numbers", 0, "4:15 ue:3 " FOUR_ELEMENTS "ue:62 63*ue:65535 $"},
-    {177, "63rd number too large", 5, "4:15 ue:3 " FOUR_ELEMENTS "ue:62 62*ue:65535 ue:65536 $"},
+    {177, "four, " TEXT(MOST_LISTED) " numbers", 0, FOUR_AND_LIST TEXT(MOST_LISTED) "*ue:65535 $"},
+    {177, "last number too large", 5, FOUR_AND_LIST TEXT(LISTED_LESS_ONE) "*ue:65535 ue:65536 $"},
     {6, "none of the nine", 1, "8:0"},
 };
 const size_t payload_case_count = COUNT(payload_cases);
@@ -87,13 +101,13 @@ const struct slot_case slot_cases[] = {
     {CLOSE, "close, closed slot", 8, CLOSED_SLOT, STEREO, 0, ""},
     {SEQUENCE, "sequence", 0, FILLED_SLOT, STEREO, 0, ""},
     {FEED, "feed 45, type 3", 0, FILLED_SLOT, STEREO, 45, SIDE_BY_SIDE},
-    {FEED, "feed 155, 16 regions", 0, FILLED_SLOT, STEREO, 155, STEREO},
+    {FEED, "feed 155, " TEXT(MOST_REGIONS) " regions", 0, FILLED_SLOT, STEREO, 155, STEREO},
     {FEED, "feed 45, four zero bytes", 4, FILLED_SLOT, STEREO, 45, "4*8:0"},
     {FEED, "feed 45, closed slot", 8, CLOSED_SLOT, STEREO, 45, SIDE_BY_SIDE},
     {PICTURE, "picture", 0, FILLED_SLOT, STEREO, 0, ""},
     {PICTURE, "picture, closed slot", 8, CLOSED_SLOT, STEREO, 0, ""},
-    {TABLE, "table, 16 rows", 0, FILLED_SLOT, MONO, 0, ""},
-    {TABLE, "table, 32 rows", 0, FILLED_SLOT, STEREO, 0, ""},
+    {TABLE, "table, " TEXT(MOST_REGIONS) " rows", 0, FILLED_SLOT, MONO, 0, ""},
+    {TABLE, "table, twice as many", 0, FILLED_SLOT, STEREO, 0, ""},
     {TABLE, "table, closed slot", 8, CLOSED_SLOT, STEREO, 0, ""},
 };
 const size_t slot_case_count = COUNT(slot_cases);

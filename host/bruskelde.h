@@ -37,7 +37,8 @@ enum {
 /* The numbers that a call answers. Where more than one fits, the order is 8, 1, 2; then 3 to 6 at the first element where one arises;
  * then 7; then 20; and last 10. bruskelde_table: 8, 9, 10. */
 enum {
-    BRUSKELDE_TAKEN = 0,
+    BRUSKELDE_TAKEN = 0,            /* of a read or a feed */
+    BRUSKELDE_DONE = 0,             /* of any other call */
     BRUSKELDE_KIND = 1,             /* the kind is none of the nine above */
     BRUSKELDE_SIZE = 2,             /* the size exceeds 8192 or the lent length */
     BRUSKELDE_SHORT = 3,            /* the next element needs a bit past the payload's end */
@@ -60,12 +61,15 @@ uint32_t bruskelde_read(uint64_t kind, uint64_t size, const uint8_t *bytes, size
  * Reads likewise, and hands out the record as numbers.
  *
  * Where the payload is taken (0) or set aside (20), row[0] is the count of extension bits in the payload's tail, and the record's
- * fields follow, in the order below; numbers past them stay as they were. Where the row is shorter than that, the answer is 10 in place
+ * fields follow, in the places below; numbers past them stay as they were. Where the row is shorter than that, the answer is 10 in place
  * of 0 or 20. With 10, and with any other number, nothing is written.
  *
  * A field that the message does not carry is 0, and so is each list entry past its count. A flag is 0 or 1.
  */
 uint32_t bruskelde_fields(uint64_t kind, uint64_t size, const uint8_t *bytes, size_t length, uint64_t *row, size_t row_length);
+
+/* The most regions of kind 155, the most numbers in the list of kind 177, the slots, and the numbers in a row of a region table. */
+enum { BRUSKELDE_MOST_REGIONS = 16, BRUSKELDE_MOST_LISTED = 63, BRUSKELDE_SLOTS = 8, BRUSKELDE_TABLE_ROW = 9 };
 
 /* How many numbers a row of each kind needs, the extension count included. BRUSKELDE_ROW_MOST is enough for any. */
 enum {
@@ -75,107 +79,180 @@ enum {
     BRUSKELDE_ROW_ORIENTATION = 4,
     BRUSKELDE_ROW_EQUIRECTANGULAR = 7,
     BRUSKELDE_ROW_ROTATION = 9,
-    BRUSKELDE_ROW_REGION_WISE = 313,
+    BRUSKELDE_ROW_REGION_WISE = 9 + 19 * BRUSKELDE_MOST_REGIONS,
     BRUSKELDE_ROW_ALPHA = 9,
-    BRUSKELDE_ROW_DEPTH = 95,
-    BRUSKELDE_ROW_MOST = 313
+    BRUSKELDE_ROW_DEPTH = 32 + BRUSKELDE_MOST_LISTED,
+    BRUSKELDE_ROW_MOST = BRUSKELDE_ROW_REGION_WISE
 };
 
 /*
- * row[0] is the extension count for every kind. Then:
- *
- * 45, frame packing
- *      1  id                               9  current frame is frame 0
- *      2  cancel                          10  frame 0 self contained
- *      3  type                            11  frame 1 self contained
- *      4  quincunx                        12  frame 0 grid position x
- *      5  content interpretation          13  frame 0 grid position y
- *      6  spatial flipping                14  frame 1 grid position x
- *      7  frame 0 flipped                 15  frame 1 grid position y
- *      8  field views                     16  persistence
- *                                         17  upsampled aspect ratio
- *   What type and content interpretation say stands at struct bruskelde_layout. Grid positions are in sixteenths of a sample from the
- *   upper left corner; x and y both 0 are the default place of the type, both 15 an unknown one.
- *
- * 47, orientation
- *      1  cancel      2  persistence      3  transform type
- *   Transform types, here and of regions. 47: what to do to the picture before it is shown; 155: to the packed region, to map it to the
- *   projected one. Degrees are anticlockwise, and mirroring is horizontal:
+ * The places in a row: row[BRUSKELDE_EXTENSION] for every kind, and then by kind.
+ */
+enum { BRUSKELDE_EXTENSION = 0 };
+
+/* 45, frame packing. What type and content interpretation say stands at struct bruskelde_layout. Grid positions are in sixteenths of a
+ * sample from the upper left corner; x and y both 0 are the default place of the type, both 15 an unknown one. */
+enum {
+    BRUSKELDE_45_ID = 1,
+    BRUSKELDE_45_CANCEL = 2,
+    BRUSKELDE_45_TYPE = 3,
+    BRUSKELDE_45_QUINCUNX = 4,
+    BRUSKELDE_45_CONTENT_INTERPRETATION = 5,
+    BRUSKELDE_45_SPATIAL_FLIPPING = 6,
+    BRUSKELDE_45_FRAME0_FLIPPED = 7,
+    BRUSKELDE_45_FIELD_VIEWS = 8,
+    BRUSKELDE_45_CURRENT_IS_FRAME0 = 9,
+    BRUSKELDE_45_FRAME0_SELF_CONTAINED = 10,
+    BRUSKELDE_45_FRAME1_SELF_CONTAINED = 11,
+    BRUSKELDE_45_FRAME0_X = 12,
+    BRUSKELDE_45_FRAME0_Y = 13,
+    BRUSKELDE_45_FRAME1_X = 14,
+    BRUSKELDE_45_FRAME1_Y = 15,
+    BRUSKELDE_45_PERSISTENCE = 16,
+    BRUSKELDE_45_UPSAMPLED_ASPECT_RATIO = 17
+};
+
+/* 47, orientation. Transform types, here and of regions. 47: what to do to the picture before it is shown; 155: to the packed region, to
+ * map it to the projected one. Degrees are anticlockwise, and mirroring is horizontal:
  *      0  none                             4  rotate by 90, then mirror
  *      1  mirror                           5  rotate by 90
  *      2  rotate by 180                    6  rotate by 270, then mirror
- *      3  rotate by 180, then mirror       7  rotate by 270
- *
- * 150, equirectangular
- *      1  cancel      2  persistence      3  guard flag
- *      4  guard type, 0 to 3              5  left width      6  right width      (in luma samples)
- *   Guard types, here and of regions: what a guard band contains.
+ *      3  rotate by 180, then mirror       7  rotate by 270 */
+enum {
+    BRUSKELDE_47_CANCEL = 1,
+    BRUSKELDE_47_PERSISTENCE = 2,
+    BRUSKELDE_47_TRANSFORM = 3
+};
+
+/* 150, equirectangular. Widths are in luma samples. Guard types, here and of regions: what a guard band contains.
  *      0  unknown or unspecified; a coded 4 to 7 is handed out as 0
  *      1  enough to interpolate between samples
  *      2  picture content whose quality changes gradually to that of the neighbour on the sphere
- *      3  picture content of like quality
- *
- * 154, sphere rotation
- *      1  cancel      2  persistence
- *      3, 4, 5  yaw, pitch, roll as coded, in 1/65536 of a degree: 32 bits in two's complement, so (int32_t)(uint32_t)row[3]
- *      6, 7, 8  the same in degrees, each as the 64 bits of a double: copy row[6] to a double by memcpy
- *
- * 155, region-wise packing
- *      1  cancel      2  persistence      3  matching flag      4  how many regions, 0 to 16
- *      5  projected picture width         6  projected picture height
- *      7  packed picture width            8  packed picture height
- *   and region i, of 16, from 9 + 19 * i on:
- *     +0  transform type                 +10  guard band left width
- *     +1  guard flag                     +11  guard band right width
- *     +2  projected width                +12  guard band top height
- *     +3  projected height               +13  guard band bottom height
- *     +4  projected top                  +14  guard bands not used for prediction
- *     +5  projected left                 +15  guard type of the left edge, 0 to 3
- *     +6  packed width                   +16  of the right edge
- *     +7  packed height                  +17  of the top edge
- *     +8  packed top                     +18  of the bottom edge
- *     +9  packed left
- *   Projected sizes and places are in relative projected picture sample units; packed ones, and guard bands, in relative packed picture
- *   sample units. With the matching flag the regions hold for each of the two frames of kind 45, else for the whole picture.
- *
- * 165, alpha
- *      1  cancel                           5  opaque value
- *      2  use                              6  increment flag
- *      3  bit depth minus 8                7  clip flag
- *      4  transparent value                8  clip type flag
- *   Uses:
+ *      3  picture content of like quality */
+enum {
+    BRUSKELDE_150_CANCEL = 1,
+    BRUSKELDE_150_PERSISTENCE = 2,
+    BRUSKELDE_150_GUARDED = 3,
+    BRUSKELDE_150_GUARD_TYPE = 4,
+    BRUSKELDE_150_LEFT_WIDTH = 5,
+    BRUSKELDE_150_RIGHT_WIDTH = 6
+};
+
+/* 154, sphere rotation. The angles as coded, in 1/65536 of a degree, are 32 bits in two's complement, so
+ * (int32_t)(uint32_t)row[BRUSKELDE_154_YAW]; those in degrees are the 64 bits of a double, to be copied to one by memcpy. */
+enum {
+    BRUSKELDE_154_CANCEL = 1,
+    BRUSKELDE_154_PERSISTENCE = 2,
+    BRUSKELDE_154_YAW = 3,
+    BRUSKELDE_154_PITCH = 4,
+    BRUSKELDE_154_ROLL = 5,
+    BRUSKELDE_154_YAW_DEGREES = 6,
+    BRUSKELDE_154_PITCH_DEGREES = 7,
+    BRUSKELDE_154_ROLL_DEGREES = 8
+};
+
+/* 155, region-wise packing; region i is BRUSKELDE_REGION numbers from BRUSKELDE_155_REGIONS + i * BRUSKELDE_REGION on, for each i below
+ * BRUSKELDE_MOST_REGIONS. Projected sizes and places are in relative projected picture sample units; packed ones, and guard bands, in
+ * relative packed picture sample units. With the matching flag the regions hold for each of the two frames of kind 45, else for the
+ * whole picture. */
+enum {
+    BRUSKELDE_155_CANCEL = 1,
+    BRUSKELDE_155_PERSISTENCE = 2,
+    BRUSKELDE_155_MATCHING = 3,
+    BRUSKELDE_155_COUNT = 4,
+    BRUSKELDE_155_PROJECTED_WIDTH = 5,
+    BRUSKELDE_155_PROJECTED_HEIGHT = 6,
+    BRUSKELDE_155_PACKED_WIDTH = 7,
+    BRUSKELDE_155_PACKED_HEIGHT = 8,
+    BRUSKELDE_155_REGIONS = 9
+};
+
+/* Places within a region, from its first number on. */
+enum {
+    BRUSKELDE_REGION_TRANSFORM = 0,
+    BRUSKELDE_REGION_GUARDED = 1,
+    BRUSKELDE_REGION_PROJECTED_WIDTH = 2,
+    BRUSKELDE_REGION_PROJECTED_HEIGHT = 3,
+    BRUSKELDE_REGION_PROJECTED_TOP = 4,
+    BRUSKELDE_REGION_PROJECTED_LEFT = 5,
+    BRUSKELDE_REGION_PACKED_WIDTH = 6,
+    BRUSKELDE_REGION_PACKED_HEIGHT = 7,
+    BRUSKELDE_REGION_PACKED_TOP = 8,
+    BRUSKELDE_REGION_PACKED_LEFT = 9,
+    BRUSKELDE_REGION_GUARD_LEFT_WIDTH = 10,
+    BRUSKELDE_REGION_GUARD_RIGHT_WIDTH = 11,
+    BRUSKELDE_REGION_GUARD_TOP_HEIGHT = 12,
+    BRUSKELDE_REGION_GUARD_BOTTOM_HEIGHT = 13,
+    BRUSKELDE_REGION_GUARD_NOT_USED = 14,       /* not used for prediction */
+    BRUSKELDE_REGION_GUARD_TYPE_LEFT = 15,
+    BRUSKELDE_REGION_GUARD_TYPE_RIGHT = 16,
+    BRUSKELDE_REGION_GUARD_TYPE_TOP = 17,
+    BRUSKELDE_REGION_GUARD_TYPE_BOTTOM = 18,
+    BRUSKELDE_REGION = 19
+};
+
+/* 165, alpha. Uses:
  *      0  blending multiplies the picture by alpha
  *      1  the picture is multiplied already
  *      2  unspecified
  *      3 to 7  reserved: H.274 has such a message ignored; here it is taken
- *   Increment: samples above the lower of the two values count as one more. Clip: to the nearer of the two values (clip type 0) or to
- *   the range between them (1), before the increment.
- *
- * 177, depth
- *      1  z near flag                      4  d max flag
- *      2  z far flag                       5  representation type
- *      3  d min flag                       6  reference view: the one for which disparities are derived
- *   Representation types:
+ * Increment: samples above the lower of the two values count as one more. Clip: to the nearer of the two values (clip type 0) or to
+ * the range between them (1), before the increment. */
+enum {
+    BRUSKELDE_165_CANCEL = 1,
+    BRUSKELDE_165_USE = 2,
+    BRUSKELDE_165_BIT_DEPTH_MINUS8 = 3,
+    BRUSKELDE_165_TRANSPARENT_VALUE = 4,
+    BRUSKELDE_165_OPAQUE_VALUE = 5,
+    BRUSKELDE_165_INCREMENT = 6,
+    BRUSKELDE_165_CLIP = 7,
+    BRUSKELDE_165_CLIP_TYPE = 8
+};
+
+/* 177, depth. Each of the four numbers is BRUSKELDE_VALUE numbers from its place on. z near and z far are the nearest and the farthest
+ * distance, in a unit that H.274 leaves open; d min and d max the least and the greatest disparity, in luma sample widths. The reference
+ * view is the one for which disparities are derived. The list, of BRUSKELDE_MOST_LISTED numbers, stands from BRUSKELDE_177_LIST on: how
+ * far each node lies off the straight line; its count is 0 without a list, and else one less than the mapping's linear segments.
+ * Representation types:
  *      0  samples are the inverse of the distance: 0 stands for z far, the greatest for z near
  *      1  samples are disparity: 0 stands for d min, the greatest for d max
  *      2  samples are the distance: 0 stands for z far, the greatest for z near
  *      3  samples are disparity, mapped by the list
- *      4 to 15  reserved: H.274 has what follows them ignored; here it is read
- *   then z near from 7, z far from 13, d min from 19 and d max from 25 on, each:
- *     +0  sign        +1  exponent        +2  mantissa length less one        +3  mantissa
- *     +4  0 where it is absent, 1 where it is unspecified, 2 where it is a number
- *     +5  the 64 bits of the number as a double; 0 where there is none
- *   z near and z far are the nearest and the farthest distance, in a unit that H.274 leaves open; d min and d max the least and the
- *   greatest disparity, in luma sample widths.
- *     31  how many numbers the list has, 0 without a list, else up to 63: one less than the mapping's linear segments
- *     32 to 94  the list: how far each node lies off the straight line
- *
- * 4, registered user data
- *      1  country code      2  the byte after the country code 255
- *
- * 5, unregistered user data
- *      1 to 16  the identifier's bytes
- */
+ *      4 to 15  reserved: H.274 has what follows them ignored; here it is read */
+enum {
+    BRUSKELDE_177_Z_NEAR_FLAG = 1,
+    BRUSKELDE_177_Z_FAR_FLAG = 2,
+    BRUSKELDE_177_D_MIN_FLAG = 3,
+    BRUSKELDE_177_D_MAX_FLAG = 4,
+    BRUSKELDE_177_TYPE = 5,
+    BRUSKELDE_177_REFERENCE_VIEW = 6,
+    BRUSKELDE_177_Z_NEAR = 7,
+    BRUSKELDE_177_Z_FAR = 13,
+    BRUSKELDE_177_D_MIN = 19,
+    BRUSKELDE_177_D_MAX = 25,
+    BRUSKELDE_177_COUNT = 31,
+    BRUSKELDE_177_LIST = 32
+};
+
+/* Places within one of the four numbers, from its first on. */
+enum {
+    BRUSKELDE_VALUE_SIGN = 0,
+    BRUSKELDE_VALUE_EXPONENT = 1,
+    BRUSKELDE_VALUE_MANTISSA_LENGTH_MINUS1 = 2,
+    BRUSKELDE_VALUE_MANTISSA = 3,
+    BRUSKELDE_VALUE_STATE = 4,      /* 0 where it is absent, 1 where it is unspecified, 2 where it is a number */
+    BRUSKELDE_VALUE_BITS = 5,       /* the 64 bits of the number as a double; 0 where there is none */
+    BRUSKELDE_VALUE = 6
+};
+
+/* 4, registered user data. The extension byte is the one after the country code 255. */
+enum {
+    BRUSKELDE_4_COUNTRY_CODE = 1,
+    BRUSKELDE_4_EXTENSION_BYTE = 2
+};
+
+/* 5, unregistered user data: the identifier's sixteen bytes. */
+enum { BRUSKELDE_5_IDENTIFIER = 1 };
 
 /* A part of the lent bytes: bytes[offset] to bytes[offset + length - 1]. */
 struct bruskelde_part {
@@ -308,8 +385,6 @@ struct bruskelde_region {
     struct bruskelde_guard_bands guard;
 };
 
-enum { BRUSKELDE_MOST_REGIONS = 16, BRUSKELDE_SLOTS = 8, BRUSKELDE_TABLE_ROW = 9 };
-
 struct bruskelde_packing {
     uint8_t cancel;
     uint8_t persistence;
@@ -417,8 +492,8 @@ struct bruskelde_tabled {
 
 /*
  * The region table of what the slot holds, in rows of nine numbers: projected left, top, width, height, packed left, top, width, height,
- * transform. One row a region, and with the matching flag as many again for the second eye. `length` counts numbers, not rows: 288 are
- * enough for any table. Numbers past the rows stay, and with a refusal all do.
+ * transform. One row a region, and with the matching flag as many again for the second eye. `length` counts numbers, not rows:
+ * 2 * BRUSKELDE_MOST_REGIONS * BRUSKELDE_TABLE_ROW are enough for any table. Numbers past the rows stay, and with a refusal all do.
  */
 struct bruskelde_tabled bruskelde_table(struct bruskelde_slots slots, uint64_t slot, uint64_t *rows, size_t length);
 

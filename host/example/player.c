@@ -47,7 +47,7 @@ static struct bruskelde_slots fed(struct bruskelde_slots slots, uint64_t slot, c
 static struct bruskelde_slots pictured(struct bruskelde_slots slots, uint64_t slot)
 {
     struct bruskelde_pictured call = bruskelde_picture(slots, slot);
-    if (call.number == BRUSKELDE_TAKEN)
+    if (call.number == BRUSKELDE_DONE)
         printf("picture %" PRIu64 ": %s\n", slot, packing(&call.held.frame_packing));
     else
         printf("picture %" PRIu64 ": refused with %" PRIu32 "\n", slot, call.number);

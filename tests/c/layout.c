@@ -2,8 +2,9 @@
  * The header's structs against the library's: every field of what a slot holds is where the library puts it and looks for it.
  *
  * Outward, random messages are fed and each field of the held record is compared with its number in the row of bruskelde_fields, whose
- * layout is proved. Inward, region tables are made of slots that were filled in here, through the header. Every slot and every region
- * has its turn, so that the sizes show too.
+ * layout is proved, by the header's name for its place. Inward, region tables are made of slots that were filled in here, through the
+ * header. Every slot and every region has its turn, so that the sizes show too. Of the kinds that no slot holds, each name of a place
+ * is tried on a payload.
  */
 #include <inttypes.h>
 #include <stdio.h>
@@ -163,43 +164,43 @@ static void check_frame_packing(const struct bruskelde_held *held, const uint64_
 {
     const struct bruskelde_frame_packing *value = &held->frame_packing.value;
     SAME(held->frame_packing.on, 1);
-    SAME(value->id, row[1]);
-    SAME(value->cancel, row[2]);
-    SAME(value->layout.arrangement_type, row[3]);
-    SAME(value->layout.quincunx, row[4]);
-    SAME(value->layout.content_interpretation, row[5]);
-    SAME(value->layout.flags.spatial_flipping, row[6]);
-    SAME(value->layout.flags.frame0_flipped, row[7]);
-    SAME(value->layout.flags.field_views, row[8]);
-    SAME(value->layout.flags.current_is_frame0, row[9]);
-    SAME(value->layout.flags.frame0_self_contained, row[10]);
-    SAME(value->layout.flags.frame1_self_contained, row[11]);
-    SAME(value->layout.grid.frame0_x, row[12]);
-    SAME(value->layout.grid.frame0_y, row[13]);
-    SAME(value->layout.grid.frame1_x, row[14]);
-    SAME(value->layout.grid.frame1_y, row[15]);
-    SAME(value->layout.persistence, row[16]);
-    SAME(value->upsampled_aspect_ratio, row[17]);
+    SAME(value->id, row[BRUSKELDE_45_ID]);
+    SAME(value->cancel, row[BRUSKELDE_45_CANCEL]);
+    SAME(value->layout.arrangement_type, row[BRUSKELDE_45_TYPE]);
+    SAME(value->layout.quincunx, row[BRUSKELDE_45_QUINCUNX]);
+    SAME(value->layout.content_interpretation, row[BRUSKELDE_45_CONTENT_INTERPRETATION]);
+    SAME(value->layout.flags.spatial_flipping, row[BRUSKELDE_45_SPATIAL_FLIPPING]);
+    SAME(value->layout.flags.frame0_flipped, row[BRUSKELDE_45_FRAME0_FLIPPED]);
+    SAME(value->layout.flags.field_views, row[BRUSKELDE_45_FIELD_VIEWS]);
+    SAME(value->layout.flags.current_is_frame0, row[BRUSKELDE_45_CURRENT_IS_FRAME0]);
+    SAME(value->layout.flags.frame0_self_contained, row[BRUSKELDE_45_FRAME0_SELF_CONTAINED]);
+    SAME(value->layout.flags.frame1_self_contained, row[BRUSKELDE_45_FRAME1_SELF_CONTAINED]);
+    SAME(value->layout.grid.frame0_x, row[BRUSKELDE_45_FRAME0_X]);
+    SAME(value->layout.grid.frame0_y, row[BRUSKELDE_45_FRAME0_Y]);
+    SAME(value->layout.grid.frame1_x, row[BRUSKELDE_45_FRAME1_X]);
+    SAME(value->layout.grid.frame1_y, row[BRUSKELDE_45_FRAME1_Y]);
+    SAME(value->layout.persistence, row[BRUSKELDE_45_PERSISTENCE]);
+    SAME(value->upsampled_aspect_ratio, row[BRUSKELDE_45_UPSAMPLED_ASPECT_RATIO]);
 }
 
 static void check_orientation(const struct bruskelde_held *held, const uint64_t *row)
 {
     SAME(held->orientation.on, 1);
-    SAME(held->orientation.value.cancel, row[1]);
-    SAME(held->orientation.value.persistence, row[2]);
-    SAME(held->orientation.value.transform, row[3]);
+    SAME(held->orientation.value.cancel, row[BRUSKELDE_47_CANCEL]);
+    SAME(held->orientation.value.persistence, row[BRUSKELDE_47_PERSISTENCE]);
+    SAME(held->orientation.value.transform, row[BRUSKELDE_47_TRANSFORM]);
 }
 
 static void check_equirectangular(const struct bruskelde_held *held, const uint64_t *row)
 {
     const struct bruskelde_equirectangular *value = &held->equirectangular.value;
     SAME(held->equirectangular.on, 1);
-    SAME(value->cancel, row[1]);
-    SAME(value->persistence, row[2]);
-    SAME(value->guarded, row[3]);
-    SAME(value->guard_type, row[4]);
-    SAME(value->left_width, row[5]);
-    SAME(value->right_width, row[6]);
+    SAME(value->cancel, row[BRUSKELDE_150_CANCEL]);
+    SAME(value->persistence, row[BRUSKELDE_150_PERSISTENCE]);
+    SAME(value->guarded, row[BRUSKELDE_150_GUARDED]);
+    SAME(value->guard_type, row[BRUSKELDE_150_GUARD_TYPE]);
+    SAME(value->left_width, row[BRUSKELDE_150_LEFT_WIDTH]);
+    SAME(value->right_width, row[BRUSKELDE_150_RIGHT_WIDTH]);
 }
 
 static uint64_t bits_of(double number)
@@ -213,53 +214,53 @@ static void check_rotation(const struct bruskelde_held *held, const uint64_t *ro
 {
     const struct bruskelde_rotation *value = &held->rotation.value;
     SAME(held->rotation.on, 1);
-    SAME(value->cancel, row[1]);
-    SAME(value->persistence, row[2]);
-    SAME((uint32_t)value->yaw, row[3]);
-    SAME((uint32_t)value->pitch, row[4]);
-    SAME((uint32_t)value->roll, row[5]);
-    SAME(bits_of(value->degrees.yaw), row[6]);
-    SAME(bits_of(value->degrees.pitch), row[7]);
-    SAME(bits_of(value->degrees.roll), row[8]);
+    SAME(value->cancel, row[BRUSKELDE_154_CANCEL]);
+    SAME(value->persistence, row[BRUSKELDE_154_PERSISTENCE]);
+    SAME((uint32_t)value->yaw, row[BRUSKELDE_154_YAW]);
+    SAME((uint32_t)value->pitch, row[BRUSKELDE_154_PITCH]);
+    SAME((uint32_t)value->roll, row[BRUSKELDE_154_ROLL]);
+    SAME(bits_of(value->degrees.yaw), row[BRUSKELDE_154_YAW_DEGREES]);
+    SAME(bits_of(value->degrees.pitch), row[BRUSKELDE_154_PITCH_DEGREES]);
+    SAME(bits_of(value->degrees.roll), row[BRUSKELDE_154_ROLL_DEGREES]);
 }
 
 static void check_region(const struct bruskelde_region *region, const uint64_t *row)
 {
-    SAME(region->transform, row[0]);
-    SAME(region->guarded, row[1]);
-    SAME(region->projected.width, row[2]);
-    SAME(region->projected.height, row[3]);
-    SAME(region->projected.top, row[4]);
-    SAME(region->projected.left, row[5]);
-    SAME(region->packed.width, row[6]);
-    SAME(region->packed.height, row[7]);
-    SAME(region->packed.top, row[8]);
-    SAME(region->packed.left, row[9]);
-    SAME(region->guard.left_width, row[10]);
-    SAME(region->guard.right_width, row[11]);
-    SAME(region->guard.top_height, row[12]);
-    SAME(region->guard.bottom_height, row[13]);
-    SAME(region->guard.not_used, row[14]);
-    SAME(region->guard.types.type0, row[15]);
-    SAME(region->guard.types.type1, row[16]);
-    SAME(region->guard.types.type2, row[17]);
-    SAME(region->guard.types.type3, row[18]);
+    SAME(region->transform, row[BRUSKELDE_REGION_TRANSFORM]);
+    SAME(region->guarded, row[BRUSKELDE_REGION_GUARDED]);
+    SAME(region->projected.width, row[BRUSKELDE_REGION_PROJECTED_WIDTH]);
+    SAME(region->projected.height, row[BRUSKELDE_REGION_PROJECTED_HEIGHT]);
+    SAME(region->projected.top, row[BRUSKELDE_REGION_PROJECTED_TOP]);
+    SAME(region->projected.left, row[BRUSKELDE_REGION_PROJECTED_LEFT]);
+    SAME(region->packed.width, row[BRUSKELDE_REGION_PACKED_WIDTH]);
+    SAME(region->packed.height, row[BRUSKELDE_REGION_PACKED_HEIGHT]);
+    SAME(region->packed.top, row[BRUSKELDE_REGION_PACKED_TOP]);
+    SAME(region->packed.left, row[BRUSKELDE_REGION_PACKED_LEFT]);
+    SAME(region->guard.left_width, row[BRUSKELDE_REGION_GUARD_LEFT_WIDTH]);
+    SAME(region->guard.right_width, row[BRUSKELDE_REGION_GUARD_RIGHT_WIDTH]);
+    SAME(region->guard.top_height, row[BRUSKELDE_REGION_GUARD_TOP_HEIGHT]);
+    SAME(region->guard.bottom_height, row[BRUSKELDE_REGION_GUARD_BOTTOM_HEIGHT]);
+    SAME(region->guard.not_used, row[BRUSKELDE_REGION_GUARD_NOT_USED]);
+    SAME(region->guard.types.type0, row[BRUSKELDE_REGION_GUARD_TYPE_LEFT]);
+    SAME(region->guard.types.type1, row[BRUSKELDE_REGION_GUARD_TYPE_RIGHT]);
+    SAME(region->guard.types.type2, row[BRUSKELDE_REGION_GUARD_TYPE_TOP]);
+    SAME(region->guard.types.type3, row[BRUSKELDE_REGION_GUARD_TYPE_BOTTOM]);
 }
 
 static void check_packing(const struct bruskelde_held *held, const uint64_t *row)
 {
     const struct bruskelde_packing *value = &held->regions.value;
     SAME(held->regions.on, 1);
-    SAME(value->cancel, row[1]);
-    SAME(value->persistence, row[2]);
-    SAME(value->matching, row[3]);
-    SAME(value->count, row[4]);
-    SAME(value->projected_width, row[5]);
-    SAME(value->projected_height, row[6]);
-    SAME(value->packed_width, row[7]);
-    SAME(value->packed_height, row[8]);
+    SAME(value->cancel, row[BRUSKELDE_155_CANCEL]);
+    SAME(value->persistence, row[BRUSKELDE_155_PERSISTENCE]);
+    SAME(value->matching, row[BRUSKELDE_155_MATCHING]);
+    SAME(value->count, row[BRUSKELDE_155_COUNT]);
+    SAME(value->projected_width, row[BRUSKELDE_155_PROJECTED_WIDTH]);
+    SAME(value->projected_height, row[BRUSKELDE_155_PROJECTED_HEIGHT]);
+    SAME(value->packed_width, row[BRUSKELDE_155_PACKED_WIDTH]);
+    SAME(value->packed_height, row[BRUSKELDE_155_PACKED_HEIGHT]);
     for (int i = 0; i < BRUSKELDE_MOST_REGIONS; i++)
-        check_region(&value->regions[i], row + 9 + 19 * i);
+        check_region(&value->regions[i], row + BRUSKELDE_155_REGIONS + BRUSKELDE_REGION * i);
 }
 
 static const struct kind {
@@ -285,7 +286,7 @@ static struct bruskelde_slots feed(struct bruskelde_slots slots, uint64_t slot, 
     SAME(bruskelde_fields(kind->number, size, payload.bytes, size, row, BRUSKELDE_ROW_MOST), BRUSKELDE_TAKEN);
     struct bruskelde_fed fed = bruskelde_feed(slots, slot, kind->number, size, payload.bytes, size);
     SAME(fed.number, BRUSKELDE_TAKEN);
-    SAME(fed.extension, row[0]);
+    SAME(fed.extension, row[BRUSKELDE_EXTENSION]);
     return fed.slots;
 }
 
@@ -294,12 +295,12 @@ static struct bruskelde_slots outward(struct bruskelde_slots slots, uint64_t slo
     enum { KINDS = sizeof kinds / sizeof *kinds };
     static uint64_t rows[KINDS][BRUSKELDE_ROW_MOST];
     struct bruskelde_called opened = bruskelde_open(slots, slot);
-    SAME(opened.number, BRUSKELDE_TAKEN);
+    SAME(opened.number, BRUSKELDE_DONE);
     slots = opened.slots;
     for (int i = 0; i < KINDS; i++)
         slots = feed(slots, slot, &kinds[i], rows[i]);
     struct bruskelde_pictured picture = bruskelde_picture(slots, slot);
-    SAME(picture.number, BRUSKELDE_TAKEN);
+    SAME(picture.number, BRUSKELDE_DONE);
     SAME(picture.slots.slots[slot].open, 1);
     for (int i = 0; i < KINDS; i++) {
         kinds[i].check(&slots.slots[slot].held, rows[i]);
@@ -368,13 +369,119 @@ static void inward(uint64_t slot, uint8_t arrangement_type)
     const uint64_t beside[4] = {packing->projected_width / 2, 0, packing->packed_width / 2, 0};
     const uint64_t below[4] = {0, packing->projected_height / 2, 0, packing->packed_height / 2};
     struct bruskelde_tabled table = bruskelde_table(slots, slot, rows, sizeof rows / sizeof *rows);
-    SAME(table.number, BRUSKELDE_TAKEN);
+    SAME(table.number, BRUSKELDE_DONE);
     SAME(table.rows, ROWS);
     for (int i = 0; i < BRUSKELDE_MOST_REGIONS; i++) {
         const uint64_t *second = rows + BRUSKELDE_TABLE_ROW * (BRUSKELDE_MOST_REGIONS + i);
         check_row(rows + BRUSKELDE_TABLE_ROW * i, &packing->regions[i], none);
         check_row(second, &packing->regions[i], arrangement_type == 3 ? beside : below);
     }
+}
+
+/* ---- the places in the rows of the kinds that no slot holds */
+
+static const uint64_t *row_of(uint64_t kind, const uint8_t *bytes, size_t size)
+{
+    static uint64_t row[BRUSKELDE_ROW_MOST];
+    SAME(bruskelde_fields(kind, size, bytes, size, row, BRUSKELDE_ROW_MOST), BRUSKELDE_TAKEN);
+    return row;
+}
+
+/* 0 101 111, then 65535 and 32769 in 16 bits each, then the flags 1, 1 and 0 */
+static void check_alpha(void)
+{
+    static const uint8_t bytes[] = {0x5f, 0xff, 0xff, 0x00, 0x03, 0xa0};
+    const uint64_t *row = row_of(BRUSKELDE_ALPHA, bytes, sizeof bytes);
+    SAME(row[BRUSKELDE_165_CANCEL], 0);
+    SAME(row[BRUSKELDE_165_USE], 5);
+    SAME(row[BRUSKELDE_165_BIT_DEPTH_MINUS8], 7);
+    SAME(row[BRUSKELDE_165_TRANSPARENT_VALUE], 65535);
+    SAME(row[BRUSKELDE_165_OPAQUE_VALUE], 32769);
+    SAME(row[BRUSKELDE_165_INCREMENT], 1);
+    SAME(row[BRUSKELDE_165_CLIP], 1);
+    SAME(row[BRUSKELDE_165_CLIP_TYPE], 0);
+}
+
+struct value {
+    uint64_t sign, exponent, length_minus1, mantissa;
+};
+
+static struct value any_value(void)
+{
+    struct value value = {any(1), 1 + any(6), any(5), 0};
+    value.mantissa = any((unsigned)value.length_minus1 + 1);
+    return value;
+}
+
+static void put_value(struct value value)
+{
+    put(value.sign, 1);
+    put(value.exponent, 7);
+    put(value.length_minus1, 5);
+    put(value.mantissa, (unsigned)value.length_minus1 + 1);
+}
+
+static void check_value(const uint64_t *row, struct value value)
+{
+    uint64_t fraction = value.mantissa << (52 - (value.length_minus1 + 1));
+    SAME(row[BRUSKELDE_VALUE_SIGN], value.sign);
+    SAME(row[BRUSKELDE_VALUE_EXPONENT], value.exponent);
+    SAME(row[BRUSKELDE_VALUE_MANTISSA_LENGTH_MINUS1], value.length_minus1);
+    SAME(row[BRUSKELDE_VALUE_MANTISSA], value.mantissa);
+    SAME(row[BRUSKELDE_VALUE_STATE], 2);
+    SAME(row[BRUSKELDE_VALUE_BITS], value.sign << 63 | (value.exponent + 992) << 52 | fraction);
+}
+
+/* present: a bit for each of the four, the first the highest */
+static void check_depth(unsigned present)
+{
+    static const struct {
+        int flag, place;
+    } four[] = {
+        {BRUSKELDE_177_Z_NEAR_FLAG, BRUSKELDE_177_Z_NEAR},
+        {BRUSKELDE_177_Z_FAR_FLAG, BRUSKELDE_177_Z_FAR},
+        {BRUSKELDE_177_D_MIN_FLAG, BRUSKELDE_177_D_MIN},
+        {BRUSKELDE_177_D_MAX_FLAG, BRUSKELDE_177_D_MAX},
+    };
+    struct value values[4];
+    memset(&payload, 0, sizeof payload);
+    put(present, 4);
+    put_golomb(3);
+    if ((present & 3) != 0)
+        put_golomb(7);
+    for (int i = 0; i < 4; i++)
+        if ((present >> (3 - i) & 1) != 0)
+            put_value(values[i] = any_value());
+    put_golomb(1);
+    put_golomb(11);
+    put_golomb(12);
+    put_tail();
+    const uint64_t *row = row_of(BRUSKELDE_DEPTH, payload.bytes, payload.bits / 8);
+    SAME(row[BRUSKELDE_177_TYPE], 3);
+    SAME(row[BRUSKELDE_177_REFERENCE_VIEW], (present & 3) != 0 ? 7u : 0u);
+    for (int i = 0; i < 4; i++) {
+        SAME(row[four[i].flag], present >> (3 - i) & 1);
+        if ((present >> (3 - i) & 1) != 0)
+            check_value(row + four[i].place, values[i]);
+        else
+            SAME(row[four[i].place + BRUSKELDE_VALUE_STATE], 0);
+    }
+    SAME(row[BRUSKELDE_177_COUNT], 2);
+    SAME(row[BRUSKELDE_177_LIST], 11);
+    SAME(row[BRUSKELDE_177_LIST + 1], 12);
+    SAME(row[BRUSKELDE_177_LIST + BRUSKELDE_MOST_LISTED - 1], 0);
+}
+
+static void check_user_data(void)
+{
+    static const uint8_t registered[] = {255, 9};
+    static const uint8_t unregistered[] = {21, 22, 23, 24, 25, 26, 27, 28, 29, 30, 31, 32, 33, 34, 35, 36};
+    const uint64_t *row = row_of(BRUSKELDE_REGISTERED, registered, sizeof registered);
+    SAME(row[BRUSKELDE_4_COUNTRY_CODE], 255);
+    SAME(row[BRUSKELDE_4_EXTENSION_BYTE], 9);
+    row = row_of(BRUSKELDE_UNREGISTERED, unregistered, sizeof unregistered);
+    for (int i = 0; i < 16; i++)
+        SAME(row[BRUSKELDE_5_IDENTIFIER + i], unregistered[i]);
 }
 
 /* ---- null with a length of 0 */
@@ -403,6 +510,10 @@ int main(void)
             inward(slot, 3);
             inward(slot, 4);
         }
+    check_alpha();
+    for (unsigned present = 0; present < 16; present++)
+        check_depth(present);
+    check_user_data();
     nothing_lent();
     printf("layout: %" PRIu64 " fields compared, no difference\n", compared);
     return 0;

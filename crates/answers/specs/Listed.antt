@@ -1,4 +1,4 @@
--- The nine kinds of 01: number, record, and how a payload of the kind is read as a whole.
+-- The nine kinds of RULES 4: number, record, and how a payload of the kind is read as a whole.
 use Prim.Native.Nat.{ℕ}
 use mathlib.Core.Bool.{Bool, true, false, cond}
 use mathlib.Core.List.{List, [], _∷_}

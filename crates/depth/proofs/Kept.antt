@@ -1,6 +1,6 @@
--- What every record that the table takes keeps to: the list's 63 entries and its count, and which of the four are absent.
+-- What every record that the table takes keeps to: the list's entries and its count, and which of the four are absent.
 -- Assumes nothing.
-use Prim.Native.Nat.{ℕ, _+_, _≤_, _<_}
+use Prim.Native.Nat.{ℕ, _+_, _-_, _≤_, _<_}
 use mathlib.Core.Path.{_≡_, refl}
 use mathlib.Core.Logic.{_↔_}
 use mathlib.Core.Bool.{Bool}
@@ -12,7 +12,7 @@ use Rattle.format.specs.Coded.{Coded}
 use Rattle.numbers.specs.declared.depth.DepthNumber.the-variants.{Absent}
 use Rattle.numbers.proofs.DepthLaws.{never-absent}
 use Rattle.depth_parts.specs.Element.{element, elementIf}
-use Rattle.depth_parts.specs.Model.{number, numbers, model}
+use Rattle.depth_parts.specs.Model.{most, number, numbers, model}
 use Rattle.depth.specs.Depth.{flags, refView, values, depth}
 use Rattle.depth_parts.specs.declared.element.DepthValue.{DepthValue}
 use Rattle.depth_parts.specs.declared.model.Model.{Model}
@@ -27,9 +27,9 @@ abbrev pub AbsentAs : ℕ → DepthValue → Type 0
 AbsentAs flag v = (v .number ≡ Absent) ↔ (flag ≡ 0)
 
 pub record Kept (a : Depth) : Type 0 where
-  -- the list has 63 entries, and every one past the count is 0
-  pub few : a .count ≤ 63
-  pub list : Padded 63 0 (a .count) (a .model)
+  -- the list has `most` entries, and every one past the count is 0
+  pub few : a .count ≤ most
+  pub list : Padded most 0 (a .count) (a .model)
   pub near : AbsentAs (a .«z_near_flag») (a .«z_near»)
   pub far : AbsentAs (a .«z_far_flag») (a .«z_far»)
   pub least : AbsentAs (a .«d_min_flag») (a .«d_min»)
@@ -37,19 +37,19 @@ pub record Kept (a : Depth) : Type 0 where
 
 -- ---- the list
 
-numbers-kept : (n : ℕ) → n ≤ 63 → Always (λ xs l. Padded 63 0 n xs) (numbers n)
+numbers-kept : (n : ℕ) → n ≤ most → Always (λ xs l. Padded most 0 n xs) (numbers n)
 unfolding numbers
-numbers-kept n h = always-listed 63 0 n number h
+numbers-kept n h = always-listed most 0 n number h
 
 record ModelKept (m : Model) : Type 0 where
-  few : m .count ≤ 63
-  list : Padded 63 0 (m .count) (m .numbers)
+  few : m .count ≤ most
+  list : Padded most 0 (m .count) (m .numbers)
 
 model-kept : (t : ℕ) → Always (λ m l. ModelKept m) (model t)
 unfolding model
 model-kept t = always-if (eqb t 3) _ _ _
     (λ b. λ c _ d fine.
-    let h : c ≤ 62 = at-most-fine 62 c fine in
+    let h : c ≤ most - 1 = at-most-fine (most - 1) c fine in
     always-part (numbers (c + 1)) _ _ _ (numbers-kept (c + 1) (omega arith)) λ xs l e.
     record { few = omega arith; list = e })
     (λ b. record { few = omega arith; list = record { entries = refl; past = refl } })

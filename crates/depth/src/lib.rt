@@ -9,6 +9,7 @@ use bits::refusal::Refusal;
 use depth_parts::element::DepthValue;
 use depth_parts::element::ElementRead;
 use depth_parts::element::read_element_if;
+use depth_parts::model::MOST;
 use depth_parts::model::Model;
 use depth_parts::model::read_model;
 use format::limit::at_most;
@@ -32,7 +33,7 @@ pub struct Depth {
     pub d_max: DepthValue,
     // How many numbers the list has; those past them are 0.
     pub count: u8,
-    pub model: [u16; 63],
+    pub model: [u16; MOST],
 }
 
 impl Depth {
@@ -52,7 +53,7 @@ impl Depth {
             d_min: DepthValue::absent(),
             d_max: DepthValue::absent(),
             count: 0,
-            model: [0u16; 63],
+            model: [0u16; MOST],
         }
     }
 

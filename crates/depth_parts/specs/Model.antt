@@ -1,5 +1,5 @@
 -- The list of a depth message: H.274 8.22.1 from depth_nonlinear_representation_num_minus1 on.
-use Prim.Native.Nat.{ℕ, _+_}
+use Prim.Native.Nat.{ℕ, _+_, _-_}
 use mathlib.Core.List.{List}
 use lib.ListN.{replicate}
 use lib.Dec.{eqb}
@@ -11,15 +11,19 @@ use Rattle.depth_parts.specs.declared.model.Model.{Model}
 use Rattle.depth_parts.specs.declared.model.ModelRead.{ModelRead}
 use Rattle.depth_parts.specs.declared.model.NumbersRead.{NumbersRead}
 
+-- the most numbers that the list may have
+abbrev pub most : ℕ
+most = 63
+
 abbrev pub number : Format ℕ
 number = ue must atMost 65535
 
 -- "every list entry past its count" is 0
 unfoldable pub numbers : ℕ → Format (List ℕ)
-numbers count = listed 63 0 count number
+numbers count = listed most 0 count number
 
 abbrev pub noNumbers : List ℕ
-noNumbers = replicate 63 0
+noNumbers = replicate most 0
 
 abbrev pub noModel : Model
 noModel = record { count = 0; numbers = noNumbers }
@@ -28,7 +32,7 @@ abbrev pub modelTable : ℕ → Format Model
 modelTable «representation_type» =
     if eqb «representation_type» 3
     then (do
-      «num_minus1» ← ue must atMost 62
+      «num_minus1» ← ue must atMost (most - 1)
       xs ← numbers («num_minus1» + 1)
       done (record { count = «num_minus1» + 1; numbers = xs }))
     else (done noModel)

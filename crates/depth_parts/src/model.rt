@@ -9,11 +9,16 @@ ghost use Prim.Native.Nat.{_≤_};
 ghost use Rattle.bits.specs.Bits.{Payload};
 ghost use Rattle.bits.specs.Out.{refused as refusedOut};
 ghost use Rattle.format.specs.Format.{runAt};
-ghost use Rattle.depth_parts.specs.Model.{numbers as numbersFormat, numbersRead, model as modelFormat, modelRead};
+ghost use Rattle.depth_parts.specs.Model.{most, numbers as numbersFormat, numbersRead, model as modelFormat, modelRead};
+
+// The most numbers that the list may have.
+pub const MOST: usize = 63;
+
+const NUM_MINUS1_MOST: u32 = MOST as u32 - 1;
 
 pub struct Model {
     pub count: u8,
-    pub numbers: [u16; 63],
+    pub numbers: [u16; MOST],
 }
 
 // The list, which is empty on a refusal, beside where the reading goes on.
@@ -29,7 +34,7 @@ impl ModelRead {
         ModelRead {
             model: Model {
                 count: 0,
-                numbers: [0u16; 63],
+                numbers: [0u16; MOST],
             },
             onward: Onward::Refused(why),
         }
@@ -38,23 +43,23 @@ impl ModelRead {
 
 // The numbers, which are zeros on a refusal, beside where the reading goes on.
 struct NumbersRead {
-    pub numbers: [u16; 63],
+    pub numbers: [u16; MOST],
     pub onward: Onward,
 }
 
 // As many numbers as count says.
 fn read_numbers(s: &[u8], c: Cursor, count: usize) -> NumbersRead
-    requires { ⌜ Payload (now s) × (count ≤ 63) ⌝ }
+    requires { ⌜ Payload (now s) × (count ≤ most) ⌝ }
     ensures { λ r. ⌜ r ≡ numbersRead (runAt (numbersFormat count) (now (s .entry)) (c .at)) ⌝ }
 {
-    let mut numbers = [0u16; 63];
+    let mut numbers = [0u16; MOST];
     let mut at = c;
     let mut i: usize = 0;
     while i < count {
         let r = at_most(s, at, 65535);
         let Read::Value(v, next) = r else {
             return NumbersRead {
-                numbers: [0u16; 63],
+                numbers: [0u16; MOST],
                 onward: Onward::Refused(r.refusal()),
             };
         };
@@ -77,12 +82,12 @@ pub fn read_model(s: &[u8], c: Cursor, representation_type: u8) -> ModelRead
         return ModelRead {
             model: Model {
                 count: 0,
-                numbers: [0u16; 63],
+                numbers: [0u16; MOST],
             },
             onward: Onward::Next(c),
         };
     }
-    let r1 = at_most(s, c, 62);
+    let r1 = at_most(s, c, NUM_MINUS1_MOST);
     let Read::Value(num_minus1, c1) = r1 else {
         return ModelRead::refused(r1.refusal());
     };

@@ -1,4 +1,4 @@
--- 01's story of a slot, and calls that are refused, as closed computations.
+-- The slot of RULES 14, and calls that are refused, as closed computations.
 -- Assumes nothing.
 use Prim.Native.Nat.{ℕ}
 use mathlib.Core.Path.{_≡_, refl}
@@ -52,7 +52,7 @@ shut-unknown : fedTo start 8 46 9000 [] ≡ record { answer = plain (Refused byS
 unfolding fedTo shutAnswer named start slotAt isOpen closedSlot
 shut-unknown = refl
 
--- ---- the slot of 01: open, feed 81 81 00 00 00 02, picture shows it; feed 81 81 00 00 00 00, picture shows that; the next shows nothing
+-- ---- the slot of RULES 14: open, feed 81 81 00 00 00 02, picture shows it; feed 81 81 00 00 00 00, picture shows that; the next shows nothing
 
 abbrev message : ℕ → FramePacking
 message persistence =

@@ -8,6 +8,7 @@ use lib.ListN.{length, replicate}
 use lib.Seq.{sets}
 use Rattle.regions.specs.List.{most}
 use Rattle.regions.specs.declared.Packing.{Packing}
+use Rattle.depth_parts.specs.Model.{most as mostListed}
 use Rattle.depth.specs.declared.Depth.{Depth}
 use Rattle.fields.specs.Fields.{headFields, regionsFields, packingFields, presenceFields, valueFields, depthFields}
 use Rattle.fields.proofs.RowLaws.{filled, joined, fields-length}
@@ -22,13 +23,13 @@ module _ (e : ℕ) (a : Packing) (r q : List ℕ) (n : length (a .regions) ≡ m
       filled (9 + 19 * most) (e ∷ packingFields a) q (omega (arith, fields-length (a .regions)))
       (joined (e ∷ headFields a) (regionsFields (a .regions)) (replicate (9 + 19 * most) 0) r q 9 refl h₁ h₂)
 
-module _ (e : ℕ) (a : Depth) (r₁ r₂ r₃ r₄ r₅ r₆ q : List ℕ) (n : length (a .model) ≡ 63)
-    (h₁ : r₁ ≡ sets (replicate 95 0) 0 (e ∷ presenceFields a)) (h₂ : r₂ ≡ sets r₁ 7 (valueFields (a .«z_near»)))
+module _ (e : ℕ) (a : Depth) (r₁ r₂ r₃ r₄ r₅ r₆ q : List ℕ) (n : length (a .model) ≡ mostListed)
+    (h₁ : r₁ ≡ sets (replicate (32 + mostListed) 0) 0 (e ∷ presenceFields a)) (h₂ : r₂ ≡ sets r₁ 7 (valueFields (a .«z_near»)))
     (h₃ : r₃ ≡ sets r₂ 13 (valueFields (a .«z_far»))) (h₄ : r₄ ≡ sets r₃ 19 (valueFields (a .«d_min»)))
     (h₅ : r₅ ≡ sets r₄ 25 (valueFields (a .«d_max»))) (h₆ : r₆ ≡ sets r₅ 31 (a .count ∷ [])) (h₇ : q ≡ sets r₆ 32 (a .model)) where
   pub depth-filled : q ≡ e ∷ depthFields a
   depth-filled =
-      let l : List ℕ = replicate 95 0 in
+      let l : List ℕ = replicate (32 + mostListed) 0 in
       let x₁ : List ℕ = e ∷ presenceFields a in
       let x₂ : List ℕ = x₁ ++ valueFields (a .«z_near») in
       let x₃ : List ℕ = x₂ ++ valueFields (a .«z_far») in
@@ -40,7 +41,7 @@ module _ (e : ℕ) (a : Depth) (r₁ r₂ r₃ r₄ r₅ r₆ q : List ℕ) (n :
       let k₄ : r₄ ≡ sets l 0 x₄ = joined x₃ (valueFields (a .«d_min»)) l r₃ r₄ 19 refl k₃ h₄ in
       let k₅ : r₅ ≡ sets l 0 x₅ = joined x₄ (valueFields (a .«d_max»)) l r₄ r₅ 25 refl k₄ h₅ in
       let k₆ : r₆ ≡ sets l 0 x₆ = joined x₅ (a .count ∷ []) l r₅ r₆ 31 refl k₅ h₆ in
-      filled 95 (e ∷ depthFields a) q (long n) (joined x₆ (a .model) l r₆ q 32 refl k₆ h₇)
+      filled (32 + mostListed) (e ∷ depthFields a) q (long n) (joined x₆ (a .model) l r₆ q 32 refl k₆ h₇)
     where
-      long : length (a .model) ≡ 63 → length (e ∷ depthFields a) ≡ 95
+      long : length (a .model) ≡ mostListed → length (e ∷ depthFields a) ≡ 32 + mostListed
       long h = omega arith

@@ -4,6 +4,7 @@ use crate::row::put_model;
 use alpha::Alpha;
 use depth::Depth;
 use depth_parts::element::DepthValue;
+use depth_parts::model;
 use equirectangular::Equirectangular;
 use frame_packing::FramePacking;
 use lent::put;
@@ -187,7 +188,10 @@ fn put_value(row: &mut [u64], at: usize, a: DepthValue)
     put(row, at, &fields);
 }
 
-pub fn depth(extension: u32, a: Depth) -> [u64; 95]
+// The extension count, 31 numbers before the list, and every entry of it.
+pub const DEPTH_FIELDS: usize = 32 + model::MOST;
+
+pub fn depth(extension: u32, a: Depth) -> [u64; DEPTH_FIELDS]
     ensures { λ r. ⌜ r ≡ extension ∷ depthFields a ⌝ }
 {
     let z_near = a.z_near;
@@ -205,7 +209,7 @@ pub fn depth(extension: u32, a: Depth) -> [u64; 95]
         a.representation_type as u64,
         a.ref_view_id as u64,
     ];
-    let mut r = [0u64; 95];
+    let mut r = [0u64; DEPTH_FIELDS];
     put(&mut r, 0, &head);
     put_value(&mut r, 7, z_near);
     put_value(&mut r, 13, z_far);

@@ -1,8 +1,10 @@
 // Narrower numbers in a row, at `at` and after it: the identifier of kind 5, and the list of kind 177.
+use depth_parts::model::MOST;
 ghost use mathlib.Core.Path.{_≡_};
 ghost use Prim.Native.Nat.{_+_, _≤_};
 ghost use lib.ListN.{length};
 ghost use lib.Seq.{sets};
+ghost use Rattle.depth_parts.specs.Model.{most};
 
 pub(crate) fn put_identifier(row: &mut [u64], at: usize, from: [u8; 16])
     requires { ⌜ at + 16 ≤ length (now row) ⌝ }
@@ -15,12 +17,12 @@ pub(crate) fn put_identifier(row: &mut [u64], at: usize, from: [u8; 16])
     }
 }
 
-pub(crate) fn put_model(row: &mut [u64], at: usize, from: [u16; 63])
-    requires { ⌜ at + 63 ≤ length (now row) ⌝ }
+pub(crate) fn put_model(row: &mut [u64], at: usize, from: [u16; MOST])
+    requires { ⌜ at + most ≤ length (now row) ⌝ }
     ensures { λ _. ⌜ now (row .exit) ≡ sets (now (row .entry)) at from ⌝ }
 {
     let mut j = 0;
-    while j < 63 {
+    while j < MOST {
         row[at + j] = word(from[j]);
         j += 1;
     }

@@ -1,4 +1,4 @@
--- Rows of some payloads of 01, and a part of user data, computed.
+-- Rows of some payloads of RULES 14, and a part of user data, computed.
 -- Assumes nothing.
 use Prim.Native.Nat.{ℕ}
 use mathlib.Core.Path.{_≡_, refl}

@@ -49,12 +49,12 @@ alone k h s e cs xs p = rw p at (factors k h cs s e)
 -- From any two values of the eight slots, with any calls on other slots in between: runs whose calls on slot k begin by opening it and
 -- are then pairs.
 pub isolated : (k : ℕ) → k < 8 → (s t : Slots) → Eight s → Eight t → (cs ds xs ys : List Call)
-    → only k cs ≡ opens k ∷ xs → only k ds ≡ opens k ∷ ys → Pairs xs ys → Isolated k s t cs ds xs
+    → only k cs ≡ opens k ∷ xs → only k ds ≡ opens k ∷ ys → Pairs xs ys → Isolated k s t cs ds xs ys
 isolated k h s t e f cs ds xs ys p q l =
     let a = alone k h s e cs xs p in
     let b = alone k h t f ds ys q in
     let r = like-run l freshSlot in
-    record { answered = rw (a .0, b .0, r .0); left = a .1 ∙ r .1 ∙ sym (b .1); alone = a .0; stands = a .1 }
+    record { answered = rw (a .0, b .0, r .0); left = a .1 ∙ r .1 ∙ sym (b .1); alone = a .0; stands = a .1; alone′ = b .0; stands′ = b .1 }
 
 -- there are eight slots after any run
 pub eight-after : (cs : List Call) (s : Slots) → Eight s → Eight (after s cs)
@@ -63,6 +63,6 @@ eight-after (c ∷ cs) s e = eight-after cs (step s c .0) (but-for s c .eight e)
 
 -- so it is after any two runs, from the start or from anywhere
 pub unseen : (k : ℕ) → k < 8 → (s t : Slots) → Eight s → Eight t → (bs cs : List Call) (xs ys : List Call) → Pairs xs ys
-    → (ds es : List Call) → only k ds ≡ opens k ∷ xs → only k es ≡ opens k ∷ ys → Isolated k (after s bs) (after t cs) ds es xs
+    → (ds es : List Call) → only k ds ≡ opens k ∷ xs → only k es ≡ opens k ∷ ys → Isolated k (after s bs) (after t cs) ds es xs ys
 unseen k h s t e f bs cs xs ys l ds es p q =
     isolated k h (after s bs) (after t cs) (eight-after bs s e) (eight-after cs t f) ds es xs ys p q l

@@ -2,6 +2,7 @@
 pub mod OneCall
 pub mod PairLaws
 pub mod Isolation
+pub mod Opened
 pub mod HeldKinds
 pub mod Persistence
 pub mod HeldMessages

@@ -61,7 +61,7 @@ same-but-extension : (k : Kind) (b : Bool) (a : Record k) (e e′ : ℕ) → une
 same-but-extension k true a e e′ = refl
 same-but-extension k false a e e′ = refl
 
-varied-answer : (kind size : ℕ) (bytes : List ℕ) (size′ : ℕ) (bytes′ : List ℕ) → VariedPayload kind size bytes size′ bytes′
+pub varied-answer : (kind size : ℕ) (bytes : List ℕ) (size′ : ℕ) (bytes′ : List ℕ) → VariedPayload kind size bytes size′ bytes′
     → unextended (answerTo kind size bytes) ≡ unextended (answerTo kind size′ bytes′)
 unfolding readingOf
 varied-answer kind size bytes size′ bytes′ v =

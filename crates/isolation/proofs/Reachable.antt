@@ -1,4 +1,4 @@
--- The eight slots after any calls from the start: what they hold, and when their tables are refused with 9.
+-- The eight slots after any calls, from the start or, at one slot, since its opening: what they hold, and when their tables are refused with 9.
 -- Assumes nothing.
 use Prim.Native.Nat.{ℕ, _≤_, _<_}
 use mathlib.Core.Path.{_≡_, refl, ap, _∙_}
@@ -9,6 +9,7 @@ use lib.Dec.{eqb}
 use borrow.Author.Tests.{eqb-true, eqb-false}
 use Rattle.bits.proofs.BitLaws.{below}
 use Rattle.answers.specs.Listed.{Record}
+use Rattle.regions.specs.List.{most}
 use Rattle.regions.specs.declared.Packing.{Packing}
 use Rattle.rows.specs.Rows.{Countable, Uncountable, tabledNumber}
 use Rattle.rows.proofs.Outcomes.{countable-or-not}
@@ -16,7 +17,7 @@ use Rattle.held.specs.declared.Held.{Held}
 use Rattle.slots.specs.Slots.{Eight, start, slotAt, isOpen, closedSlot, freshSlot}
 use Rattle.slots.specs.declared.Slot.{Slot}
 use Rattle.slots.specs.declared.Slots.{Slots}
-use Rattle.slots.proofs.Laws.{start-eight, start-closed, slot-past, closed-holds}
+use Rattle.slots.proofs.Laws.{start-eight, start-closed, slot-past, closed-holds, fresh-holds}
 use Rattle.tables.specs.Table.{tableIn}
 use Rattle.tables.specs.Cases.{packingOf, NoTable, none, uncounted, unpacked, other, Tableless}
 use Rattle.tables.proofs.TableLaws.{when-9}
@@ -38,33 +39,22 @@ some-calls cs n = go (below n 8)
     go (inl h) = (only n cs, own-calls cs n h)
     go (inr h) = ([], slot-past (after start cs) n (eight-after cs start start-eight) h)
 
--- ---- what they hold
+-- ---- a slot in which every record of kind 155 is one that its table gives
 
-pub holds-from-start : (k : Lasting) (a : Record (kindOf k)) (cs : List Call) (n : ℕ) → n < 8
-    → HoldsOf k a (slotAt (after start cs) n) ↔ Since k a (history closedSlot (only n cs))
-holds-from-start k a cs n h = rw (own-calls cs n h) (holds-when k a closedSlot closed-holds (only n cs))
+abbrev ByItsTable : Slot → Type 0
+ByItsTable x = (p : Packing) → HoldsOf regionWise p x → ByTable regionWise p × (cancelOf regionWise p ≡ 0)
 
--- the same since its opening, from any eight slots
-pub holds-in-run : (k : Lasting) (a : Record (kindOf k)) (n : ℕ) → n < 8 → (s : Slots) → Eight s → (cs xs : List Call) → only n cs ≡ opens n ∷ xs
-    → HoldsOf k a (slotAt (after s cs) n) ↔ Since k a (history freshSlot xs)
-holds-in-run k a n h s e cs xs p = rw (alone n h s e cs xs p .1) (holds-iff k a xs)
+count-of : (x : Slot) → ByItsTable x → (p : Packing) → HoldsOf regionWise p x → (1 ≤ p .count) × (p .count ≤ most)
+count-of x t p q = let d = t p q in let c = table-countable p (d .0) (d .1) in (c .some, c .few)
 
--- each record is one that its table gives, and no cancel
-pub held-table : (k : Lasting) (a : Record (kindOf k)) (cs : List Call) (n : ℕ) → HoldsOf k a (slotAt (after start cs) n) → ByTable k a × (cancelOf k a ≡ 0)
-held-table k a cs n q = let x = some-calls cs n in alone-table k a closedSlot closed-holds (x .0) (rw (x .1) at q)
-
--- and of kind 155 it has from 1 to 16 regions
-pub held-count : (p : Packing) (cs : List Call) (n : ℕ) → HoldsOf regionWise p (slotAt (after start cs) n) → (1 ≤ p .count) × (p .count ≤ 16)
-held-count p cs n q = let d = held-table regionWise p cs n q in let c = table-countable p (d .0) (d .1) in (c .some, c .few)
-
--- so a table call on such slots never meets a held count of 0 or above the limit
-pub held-countable : (cs : List Call) (n : ℕ) → slotAt (after start cs) n .held .regions .on ≡ 1 → Countable (slotAt (after start cs) n .held .regions .value)
-held-countable cs n e =
-    let p : Packing = slotAt (after start cs) n .held .regions .value in
-    let c = held-count p cs n (ap (λ (on : ℕ). record { on = on; value = p }) e) in
+-- a table call on it never meets a count of 0 or above the limit
+countable-of : (x : Slot) → ByItsTable x → x .held .regions .on ≡ 1 → Countable (x .held .regions .value)
+countable-of x t e =
+    let p : Packing = x .held .regions .value in
+    let c = count-of x t p (ap (λ (on : ℕ). record { on = on; value = p }) e) in
     record { some = c .0; few = c .1 }
 
--- and 9 is given exactly where 01 says
+-- and is refused with 9 exactly where RULES 12 says
 words : (h : Held) → (h .regions .on ≡ 1 → Countable (packingOf h)) → NoTable h ↔ Tableless h
 words h k = (to, back)
   where
@@ -83,9 +73,46 @@ words h k = (to, back)
     back (inr (m, inl f)) = unpacked m f
     back (inr (m, inr w)) = other m (w .0) (w .1)
 
+nine-of : (s : Slots) (n room : ℕ) → ByItsTable (slotAt s n)
+    → (tabledNumber (tableIn s n room .answer) ≡ 9) ↔ ((isOpen (slotAt s n) ≡ true) × Tableless (slotAt s n .held))
+nine-of s n room t =
+    let when = when-9 s n room in
+    let same = words (slotAt s n .held) (countable-of (slotAt s n) t) in
+    (λ q. let w = when .0 q in (w .0, same .0 (w .1)), λ w. when .1 (w .0, same .1 (w .1)))
+
+-- ---- from the start
+
+pub holds-from-start : (k : Lasting) (a : Record (kindOf k)) (cs : List Call) (n : ℕ) → n < 8
+    → HoldsOf k a (slotAt (after start cs) n) ↔ Since k a (history closedSlot (only n cs))
+holds-from-start k a cs n h = rw (own-calls cs n h) (holds-when k a closedSlot closed-holds (only n cs))
+
+-- each record is one that its table gives, and no cancel
+pub held-table : (k : Lasting) (a : Record (kindOf k)) (cs : List Call) (n : ℕ) → HoldsOf k a (slotAt (after start cs) n) → ByTable k a × (cancelOf k a ≡ 0)
+held-table k a cs n q = let x = some-calls cs n in alone-table k a closedSlot closed-holds (x .0) (rw (x .1) at q)
+
+pub held-count : (p : Packing) (cs : List Call) (n : ℕ) → HoldsOf regionWise p (slotAt (after start cs) n) → (1 ≤ p .count) × (p .count ≤ most)
+held-count p cs n = count-of (slotAt (after start cs) n) (λ a. held-table regionWise a cs n) p
+
+-- so a table call never meets a held count of 0 or above the limit
+pub held-countable : (cs : List Call) (n : ℕ) → slotAt (after start cs) n .held .regions .on ≡ 1 → Countable (slotAt (after start cs) n .held .regions .value)
+held-countable cs n = countable-of (slotAt (after start cs) n) (λ a. held-table regionWise a cs n)
+
 pub nine-from-start : (cs : List Call) (n room : ℕ)
     → (tabledNumber (tableIn (after start cs) n room .answer) ≡ 9) ↔ ((isOpen (slotAt (after start cs) n) ≡ true) × Tableless (slotAt (after start cs) n .held))
-nine-from-start cs n room =
-    let when = when-9 (after start cs) n room in
-    let same = words (slotAt (after start cs) n .held) (held-countable cs n) in
-    (λ q. let w = when .0 q in (w .0, same .0 (w .1)), λ w. when .1 (w .0, same .1 (w .1)))
+nine-from-start cs n room = nine-of (after start cs) n room (λ a. held-table regionWise a cs n)
+
+-- ---- since its opening, from any eight slots
+
+module _ (n : ℕ) (h : n < 8) (s : Slots) (e : Eight s) (cs xs : List Call) (p : only n cs ≡ opens n ∷ xs) where
+  pub holds-in-run : (k : Lasting) (a : Record (kindOf k)) → HoldsOf k a (slotAt (after s cs) n) ↔ Since k a (history freshSlot xs)
+  holds-in-run k a = rw (alone n h s e cs xs p .1) (holds-iff k a xs)
+
+  pub held-table-in-run : (k : Lasting) (a : Record (kindOf k)) → HoldsOf k a (slotAt (after s cs) n) → ByTable k a × (cancelOf k a ≡ 0)
+  held-table-in-run k a q = alone-table k a freshSlot fresh-holds xs (rw (alone n h s e cs xs p .1) at q)
+
+  pub held-count-in-run : (a : Packing) → HoldsOf regionWise a (slotAt (after s cs) n) → (1 ≤ a .count) × (a .count ≤ most)
+  held-count-in-run = count-of (slotAt (after s cs) n) (held-table-in-run regionWise)
+
+  pub nine-in-run : (room : ℕ)
+      → (tabledNumber (tableIn (after s cs) n room .answer) ≡ 9) ↔ ((isOpen (slotAt (after s cs) n) ≡ true) × Tableless (slotAt (after s cs) n .held))
+  nine-in-run room = nine-of (after s cs) n room (held-table-in-run regionWise)

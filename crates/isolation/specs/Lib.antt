@@ -2,3 +2,4 @@
 pub mod Runs
 pub mod Pairs
 pub mod Lasting
+pub mod Opened

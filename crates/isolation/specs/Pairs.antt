@@ -52,9 +52,11 @@ pub data Pairs : List Call → List Call → Type 0 where
   both : {c d : Call} {cs ds : List Call} → Pair c d → Pairs cs ds → Pairs (c ∷ cs) (d ∷ ds)
 
 -- The runs cs and ds, from s and t, give the same at slot k: every reply but for the extension's length, every row written, and what the
--- slot holds; and that is what the calls xs give on a fresh slot alone.
-pub record Isolated (k : ℕ) (s t : Slots) (cs ds xs : List Call) : Type 0 where
+-- slot holds; and each is what its own calls, xs and ys, give on a fresh slot alone.
+pub record Isolated (k : ℕ) (s t : Slots) (cs ds xs ys : List Call) : Type 0 where
   pub answered : blinds (repliesAt k s cs) ≡ blinds (repliesAt k t ds)
   pub left : slotAt (after s cs) k ≡ slotAt (after t ds) k
   pub alone : repliesAt k s cs ≡ said Done ∷ replies freshSlot xs
   pub stands : slotAt (after s cs) k ≡ ends freshSlot xs
+  pub alone′ : repliesAt k t ds ≡ said Done ∷ replies freshSlot ys
+  pub stands′ : slotAt (after t ds) k ≡ ends freshSlot ys

@@ -14,6 +14,7 @@ use Rattle.bits.specs.Refusals.{OfElement}
 use Rattle.bits.specs.declared.refusal.Refusal.{Refusal}
 use Rattle.bits.specs.declared.refusal.Refusal.the-variants as why
 use Rattle.bits.proofs.Determined.{refusal-told}
+use Rattle.bits.proofs.Numbers.{refused-some}
 use Rattle.format.specs.Stopped.{Stopped}
 use Rattle.format.specs.Whole.{taken, setAside, refused, Holds, BadTail, Seen}
 use Rattle.format.specs.Whole as whole
@@ -88,18 +89,6 @@ element-later refusals.rule = (λ h. omega arith, λ h. omega arith)
 element-later refusals.regions = (λ h. omega arith, λ h. omega arith)
 
 -- no two outcomes have one number
-refused-some : (r : Refusal) → (1 ≤ refusals.numberOf r) × (refusals.numberOf r ≤ 10)
-refused-some why.Kind = (omega arith, omega arith)
-refused-some why.Size = (omega arith, omega arith)
-refused-some why.Short = (omega arith, omega arith)
-refused-some why.Zeros = (omega arith, omega arith)
-refused-some why.Rule = (omega arith, omega arith)
-refused-some why.Regions = (omega arith, omega arith)
-refused-some why.Tail = (omega arith, omega arith)
-refused-some why.Slot = (omega arith, omega arith)
-refused-some why.Table = (omega arith, omega arith)
-refused-some why.Rows = (omega arith, omega arith)
-
 outcome-told : (o p : Outcome) → outcomeNumber o ≡ outcomeNumber p → o ≡ p
 outcome-told Taken Taken h = refl
 outcome-told Taken SetAside h = absurd (omega arith)

@@ -2,6 +2,7 @@
 pub mod Calls
 pub mod Demand2
 pub mod Local
+pub mod PartLocal
 pub mod Determined
 pub mod Payloads
 pub mod UserHeads

@@ -1,4 +1,4 @@
--- The payloads of 01 marked *: each is answered as the table says.
+-- The payloads of RULES 14 marked *: each is answered as the table says.
 -- Assumes nothing.
 use mathlib.Core.Path.{refl}
 use Rattle.bits.specs.Bits.{bitAt, part, from, number}

@@ -1,4 +1,4 @@
--- The payloads of 01 marked *, each with the whole answer that 01's rules give it.
+-- The payloads of RULES 14 marked *, each with the whole answer that the rules give it.
 use Prim.Native.Nat.{ℕ}
 use mathlib.Core.Path.{_≡_}
 use mathlib.Core.List.{List, [], _∷_, _++_}
@@ -12,6 +12,7 @@ use Rattle.equirectangular.specs.declared.Equirectangular.{Equirectangular}
 use Rattle.rotation.specs.declared.Rotation.{Rotation}
 use Rattle.alpha.specs.declared.Alpha.{Alpha}
 use Rattle.depth.specs.declared.Depth.{Depth}
+use Rattle.depth_parts.specs.Model.{noNumbers}
 use Rattle.depth_parts.specs.declared.element.DepthValue.{DepthValue}
 use Rattle.answers.specs.declared.kind.Kind.the-variants as kinds
 use Rattle.answers.specs.declared.Answer.{Answer}
@@ -150,7 +151,7 @@ near =
       «d_min» = nothing;
       «d_max» = nothing;
       count = 0;
-      model = replicate 63 0;
+      model = noNumbers;
     }
 
 abbrev pub others : List Row

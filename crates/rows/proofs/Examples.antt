@@ -1,6 +1,6 @@
 -- Tables of small packings: their rows, and what they leave of the lent numbers.
 -- Assumes nothing.
-use Prim.Native.Nat.{ℕ}
+use Prim.Native.Nat.{ℕ, _+_}
 use mathlib.Core.Path.{_≡_, refl}
 use mathlib.Core.List.{List, [], _∷_}
 use lib.ListN.{replicate}
@@ -86,6 +86,6 @@ none : tableOf (packing 0 100 50 []) Whole 20 ≡ refuses byTable
 unfolding tableOf
 none = refl
 
-seventeen : tableOf (packing 17 100 50 (replicate 16 told)) Whole 1000 ≡ refuses byTable
+one-too-many : tableOf (packing (most + 1) 100 50 (replicate most told)) Whole 1000 ≡ refuses byTable
 unfolding tableOf
-seventeen = refl
+one-too-many = refl

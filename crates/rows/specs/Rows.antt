@@ -1,4 +1,4 @@
--- The region table: 01, "Region table", with the offsets of H.274 8.15.5.2.
+-- The region table: RULES 12, with the offsets of H.274 8.15.5.2.
 use Prim.Native.Nat.{ℕ, _+_, _*_, _/_, _≤_, _<_}
 use mathlib.Core.Path.{_≡_}
 use mathlib.Core.Logic.{_⊎_}

@@ -52,7 +52,7 @@ pub fresh-holds : freshSlot .held ≡ nothing
 unfolding freshSlot
 fresh-holds = refl
 
-closed-shut : isOpen closedSlot ≡ false
+pub closed-shut : isOpen closedSlot ≡ false
 unfolding isOpen closedSlot
 closed-shut = refl
 

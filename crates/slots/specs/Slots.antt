@@ -1,4 +1,4 @@
--- The eight slots, and what each call answers and leaves: 01, "Slots".
+-- The eight slots, and what each call answers and leaves: RULES 11.
 use Prim.Native.Nat.{ℕ, _≤_}
 use mathlib.Core.Bool.{Bool, false}
 use mathlib.Core.Path.{_≡_}

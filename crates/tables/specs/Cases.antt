@@ -34,7 +34,7 @@ pub record Makes (h : Held) (split : Split) : Type 0 where
   pub counted : Countable (packingOf h)
   pub splits : Splits h split
 
--- 01's words for 9: "no held kind 155, or the matching flag without such a kind 45"
+-- RULES 12 on refusal 9: nothing of kind 155 is held, or it has the matching flag and no kind 45 of type 3 or 4 is held
 abbrev pub Tableless : Held → Type 0
 Tableless h = (h .regions .on ≢ 1) ⊎ ((packingOf h .matching ≢ 0) × ((h .«frame_packing» .on ≢ 1) ⊎ ((typeOf h ≢ 3) × (typeOf h ≢ 4))))
 

@@ -1,6 +1,6 @@
 -- `depth_parts::model::read_model` meets its contract: atN says, right after the Nth read, what is left of the table.
 -- Assumes nothing.
-use Prim.Native.Nat.{ℕ, _≤_}
+use Prim.Native.Nat.{ℕ, _-_, _≤_}
 use mathlib.Core.List.{List}
 use mathlib.Core.Path.{_≡_, refl, sym, ap, _∙_}
 use native.Mathlib.Omega.{arith}
@@ -11,7 +11,7 @@ use Rattle.bits.specs.Coding.{golomb}
 use Rattle.bits.specs.Answers.{answer}
 use Rattle.format.specs.Format.{runAt}
 use Rattle.format.proofs.Steps.{step-done, step, step-yes, step-no, step-part, At, start, next, last, stop}
-use Rattle.depth_parts.specs.Model.{numbers, numbersRead, modelTable, model, modelRead}
+use Rattle.depth_parts.specs.Model.{most, numbers, numbersRead, modelTable, model, modelRead}
 use Rattle.depth_parts.specs.declared.model.Model.{Model}
 use Rattle.depth_parts.specs.declared.model.NumbersRead.{NumbersRead}
 use Rattle.format.proofs.ReaderLaws.{at-most-kept, beside, stopped-beside}
@@ -38,9 +38,9 @@ at2 c =
     next (at1 (c .before .before .before .before)) _ (ap answer (c .before .before .r1 .given .1)) (numbers-beside (runAt (numbers _) _ _) (c .read-numbers .ensures))
     (step-part (numbers _) _ _ _)
 
--- there are at most 63 numbers
-few : (c : tie.After-known-told) → c .before .r1 .given .0 .0 ≤ 62
-few c = at-most-kept golomb 62 _ _ (sym (c .before .before .before .at-most .ensures) ∙ ap answer (c .before .r1 .given .1))
+-- there are not too many numbers
+few : (c : tie.After-known-told) → c .before .r1 .given .0 .0 ≤ most - 1
+few c = at-most-kept golomb (most - 1) _ _ (sym (c .before .before .before .at-most .ensures) ∙ ap answer (c .before .r1 .given .1))
 
 returns-3 : tie.Need-returns-3
 returns-3 c =

@@ -9,20 +9,20 @@ use Rattle.bits.specs.Coding.{golomb}
 use Rattle.bits.specs.Answers.{answer}
 use Rattle.format.specs.Format.{coded, elementAt}
 use Rattle.format.specs.Syntax.{atMost}
-use Rattle.depth_parts.specs.Model.{number, numbers, numbersRead}
+use Rattle.depth_parts.specs.Model.{most, number, numbers, numbersRead}
 use Rattle.format.proofs.ReaderLaws.{at-most-kept, one-element}
 use Rattle.format.proofs.Filling.{Filling, first, one-more, stopped, filled}
 use Rattle.depth_parts.proofs.model.read_numbers.Statement.{statement}
 use Rattle.depth_parts.proofs.model.read_numbers.Tie as tie
 
 abbrev Inv-loop : tie.InvT-loop
-Inv-loop s count numbers₀ at₀ i₀ numbers at i = Filling number 63 0 s count (at₀ .at) numbers i (at .at)
+Inv-loop s count numbers₀ at₀ i₀ numbers at i = Filling number most 0 s count (at₀ .at) numbers i (at .at)
 
 abbrev μ-loop : tie.MeasureT-loop
 μ-loop s count numbers₀ at₀ i₀ numbers at i = count - i
 
 loop-holds : tie.Need-loop-holds Inv-loop μ-loop
-loop-holds c = first number 63 0 _ _ _ (search needs)
+loop-holds c = first number most 0 _ _ _ (search needs)
 
 returns : tie.Need-returns Inv-loop μ-loop
 unfolding numbers
@@ -30,7 +30,7 @@ returns c =
     let b = c .before .before .before in
     let f = b .before .before .loop .inv in
     rw (c .refusal .ensures, c .before .enum-told .given .1)
-    (ap numbersRead (sym (stopped number 63 0 _ _ _ f (omega arith) (one-element _ _ _ ∙ sym (b .at-most .ensures) ∙ ap answer (c .before .enum-told .given .1)))))
+    (ap numbersRead (sym (stopped number most 0 _ _ _ f (omega arith) (one-element _ _ _ ∙ sym (b .at-most .ensures) ∙ ap answer (c .before .enum-told .given .1)))))
 
 -- where a number was read
 value : (c : tie.After-known-told Inv-loop μ-loop) → let b = c .before .before .before in let v = c .before .r .given .0 in
@@ -43,11 +43,11 @@ cast-numbers c = record { fits = omega (arith, at-most-kept golomb 65535 _ _ (va
 loop-again : tie.Need-loop-again Inv-loop μ-loop
 loop-again c =
     let f = c .before .before .before .before .before .loop .inv in
-    one-more number 63 0 _ _ _ f (omega arith) (one-element _ _ _ ∙ value c)
+    one-more number most 0 _ _ _ f (omega arith) (one-element _ _ _ ∙ value c)
 
 returns-2 : tie.Need-returns-2 Inv-loop μ-loop
 unfolding numbers
-returns-2 c = ap numbersRead (sym (filled number 63 0 _ _ _ (c .before .loop .inv) (omega arith)))
+returns-2 c = ap numbersRead (sym (filled number most 0 _ _ _ (c .before .loop .inv) (omega arith)))
 
 pub read-numbers-spec : {M : Type 1} → statement M
 read-numbers-spec =

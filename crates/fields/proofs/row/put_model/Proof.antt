@@ -6,15 +6,16 @@ use native.Mathlib.Omega.{arith}
 use borrow.Author.Needs.{needs}
 use lib.ListN.{length, length-set, take}
 use lib.Seq.{sets, take-all}
+use Rattle.depth_parts.specs.Model.{most}
 use Rattle.lent.proofs.Stores.{sets-more}
 use Rattle.fields.proofs.row.put_model.Statement.{statement}
 use Rattle.fields.proofs.row.put_model.Tie as tie
 
 abbrev Inv-loop : tie.InvT-loop
-Inv-loop row₀ at from j₀ row j = (j ≤ 63) × (length from ≡ 63) × (length row ≡ length row₀) × (row ≡ sets row₀ at (take j from))
+Inv-loop row₀ at from j₀ row j = (j ≤ most) × (length from ≡ most) × (length row ≡ length row₀) × (row ≡ sets row₀ at (take j from))
 
 abbrev μ-loop : tie.MeasureT-loop
-μ-loop row₀ at from j₀ row j = 63 - j
+μ-loop row₀ at from j₀ row j = most - j
 
 loop-again : tie.Need-loop-again Inv-loop μ-loop
 loop-again c =

@@ -1,0 +1,116 @@
+-- Demand 3 in what a C player sees; and that bytes past the stated size, and what may vary, leave no trace in what it is handed.
+-- Assumes nothing.
+use Prim.Native.Nat.{ℕ, _≤_, _<_}
+use mathlib.Core.Path.{_≡_, refl, sym, ap, _∙_}
+use mathlib.Core.Bool.{Bool, true, false, cond}
+use mathlib.Core.List.{List, [], _∷_}
+use lib.Dec.{leb}
+use lib.ListN.{length, take, drop}
+use Rattle.bits.specs.Refusals as refusals
+use Rattle.lent.specs.Lent.{Left, left, over}
+use Rattle.answers.specs.Answer.{numberOf}
+use Rattle.answers.specs.declared.Answer.{Answer}
+use Rattle.answers.specs.declared.Outcome.{Outcome}
+use Rattle.answers.specs.declared.Outcome.the-variants.{Taken, SetAside, Refused}
+use Rattle.answers.specs.declared.Message.{Message}
+use Rattle.answers.specs.declared.Message.the-variants as message
+use Rattle.reader.specs.Reader.{answerTo}
+use Rattle.reader.specs.User.{startOf}
+use Rattle.reader.proofs.Local.{local}
+use Rattle.slots.specs.Slots.{Eight}
+use Rattle.slots.specs.declared.Slots.{Slots}
+use Rattle.isolation.specs.Runs.{Call, opens, Reply, said, shown, read, tabled, only, unextended, blind, blinds}
+use Rattle.isolation.specs.Pairs.{VariedPayload, Pairs, Isolated}
+use Rattle.isolation.proofs.PairLaws.{varied-answer}
+use Rattle.isolation.proofs.Isolation.{isolated}
+use Rattle.handing.specs.Handing.{recordFields, fieldsOf, handed, wroteBy, wroteFields}
+use Rattle.host.specs.Part.{partAt, partOf}
+use Rattle.host.specs.Seen.{Seen, seen, allSeen, blindly, allBlindly, SeenIsolated, SameButFirst}
+
+-- ---- demand 3
+
+blind-seen : (r : Reply) → blindly (seen r) ≡ seen (blind r)
+blind-seen (said a) = refl
+blind-seen (shown a h) = refl
+blind-seen (read a) = refl
+blind-seen (tabled t) = refl
+
+blinds-seen : (rs : List Reply) → allBlindly (allSeen rs) ≡ allSeen (blinds rs)
+blinds-seen [] = refl
+blinds-seen (r ∷ rs) = rw (blind-seen r, blinds-seen rs)
+
+pub seen-isolated : (k : ℕ) → k < 8 → (s t : Slots) → Eight s → Eight t → (cs ds xs ys : List Call)
+    → only k cs ≡ opens k ∷ xs → only k ds ≡ opens k ∷ ys → Pairs xs ys → SeenIsolated k s t cs ds xs ys
+seen-isolated k h s t e f cs ds xs ys p q l =
+    let i = isolated k h s t e f cs ds xs ys p q l in
+    record {
+      answered = blinds-seen _ ∙ ap allSeen (i .answered) ∙ sym (blinds-seen _);
+      left = i .left;
+      alone = ap allSeen (i .alone);
+      stands = i .stands;
+      alone′ = ap allSeen (i .alone′);
+      stands′ = i .stands′;
+    }
+
+-- ---- no byte past the stated size has any effect on what an entry answers
+
+module _ (n size : ℕ) (s t : List ℕ) (h : size ≤ length s) (l : size ≤ length t) (e : take size s ≡ take size t) where
+  pub number-local : numberOf (answerTo n size s) ≡ numberOf (answerTo n size t)
+  number-local = ap numberOf (local n size s t h l e)
+
+  pub row-local : (row : List ℕ) → wroteFields (answerTo n size s) row ≡ wroteFields (answerTo n size t) row
+  row-local row = ap (λ a. wroteFields a row) (local n size s t h l e)
+
+  pub part-local : partOf n size s ≡ partOf n size t
+  unfolding partOf
+  part-local = ap (λ a. partAt (startOf a) size) (local n size s t h l e)
+
+-- ---- a varied payload gives the same row but for its first place
+
+record-unextended : (a : Answer) (m : Message) → recordFields (unextended a) m ≡ recordFields a m
+record-unextended a message.Nothing = refl
+record-unextended a (message.FramePacking m) = refl
+record-unextended a (message.Orientation m) = refl
+record-unextended a (message.Equirectangular m) = refl
+record-unextended a (message.Rotation m) = refl
+record-unextended a message.RegionWise = refl
+record-unextended a (message.Alpha m) = refl
+record-unextended a message.Depth = refl
+record-unextended a (message.Registered m) = refl
+record-unextended a message.Unregistered = refl
+
+handed-but-first : (n e d : ℕ) (fields row : List ℕ) → SameButFirst (handed n (e ∷ fields) row) (handed n (d ∷ fields) row)
+unfolding handed
+handed-but-first n e d fields row = go (leb (length (e ∷ fields)) (length row))
+  where
+    abbrev By : Bool → ℕ → Left ℕ
+    By b x = cond b (left n (over (x ∷ fields) row)) (left (refusals.numberOf refusals.byRows) row)
+
+    go : (b : Bool) → SameButFirst (By b e) (By b d)
+    go true = record { answered = refl; long = refl; rest = refl }
+    go false = record { answered = refl; long = refl; rest = refl }
+
+row-unextended : (a : Answer) (row : List ℕ) → SameButFirst (wroteFields a row) (wroteFields (unextended a) row)
+unfolding wroteFields
+row-unextended a row = go (a .outcome)
+  where
+    fields : SameButFirst (handed (numberOf a) (fieldsOf a) row) (handed (numberOf a) (fieldsOf (unextended a)) row)
+    unfolding fieldsOf
+    fields = rw (record-unextended a (a .message)) (handed-but-first (numberOf a) (a .extension) 0 (recordFields a (a .message)) row)
+
+    go : (o : Outcome) → SameButFirst (wroteBy o a row) (wroteBy o (unextended a) row)
+    go Taken = fields
+    go SetAside = fields
+    go (Refused why) = record { answered = refl; long = refl; rest = refl }
+
+pub varied-row : (kind size : ℕ) (bytes : List ℕ) (size′ : ℕ) (bytes′ : List ℕ) → VariedPayload kind size bytes size′ bytes′ → (row : List ℕ)
+    → SameButFirst (wroteFields (answerTo kind size bytes) row) (wroteFields (answerTo kind size′ bytes′) row)
+varied-row kind size bytes size′ bytes′ v row =
+    let x = row-unextended (answerTo kind size bytes) row in
+    let y = row-unextended (answerTo kind size′ bytes′) row in
+    let e = ap (λ a. wroteFields a row) (varied-answer kind size bytes size′ bytes′ v) in
+    record {
+      answered = x .answered ∙ ap (λ (o : Left ℕ). o .answer) e ∙ sym (y .answered);
+      long = x .long ∙ ap (λ (o : Left ℕ). length (o .lent)) e ∙ sym (y .long);
+      rest = x .rest ∙ ap (λ (o : Left ℕ). drop 1 (o .lent)) e ∙ sym (y .rest);
+    }
