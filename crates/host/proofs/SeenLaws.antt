@@ -19,7 +19,7 @@ use Rattle.reader.specs.User.{startOf}
 use Rattle.reader.proofs.Local.{local}
 use Rattle.slots.specs.Slots.{Eight}
 use Rattle.slots.specs.declared.Slots.{Slots}
-use Rattle.isolation.specs.Runs.{Call, opens, Reply, said, shown, read, tabled, only, unextended, blind, blinds}
+use Rattle.isolation.specs.Runs.{Call, opens, Reply, said, shown, read, tabled, repliesAt, only, unextended, blind, blinds}
 use Rattle.isolation.specs.Pairs.{VariedPayload, Pairs, Isolated}
 use Rattle.isolation.proofs.PairLaws.{varied-answer}
 use Rattle.isolation.proofs.Isolation.{isolated}
@@ -44,7 +44,7 @@ pub seen-isolated : (k : ℕ) → k < 8 → (s t : Slots) → Eight s → Eight 
 seen-isolated k h s t e f cs ds xs ys p q l =
     let i = isolated k h s t e f cs ds xs ys p q l in
     record {
-      answered = blinds-seen _ ∙ ap allSeen (i .answered) ∙ sym (blinds-seen _);
+      answered = blinds-seen (repliesAt k s cs) ∙ ap allSeen (i .answered) ∙ sym (blinds-seen (repliesAt k t ds));
       left = i .left;
       alone = ap allSeen (i .alone);
       stands = i .stands;
@@ -83,7 +83,7 @@ handed-but-first : (n e d : ℕ) (fields row : List ℕ) → SameButFirst (hande
 unfolding handed
 handed-but-first n e d fields row = go (leb (length (e ∷ fields)) (length row))
   where
-    abbrev By : Bool → ℕ → Left ℕ
+    By : Bool → ℕ → Left ℕ
     By b x = cond b (left n (over (x ∷ fields) row)) (left (refusals.numberOf refusals.byRows) row)
 
     go : (b : Bool) → SameButFirst (By b e) (By b d)
@@ -91,11 +91,10 @@ handed-but-first n e d fields row = go (leb (length (e ∷ fields)) (length row)
     go false = record { answered = refl; long = refl; rest = refl }
 
 row-unextended : (a : Answer) (row : List ℕ) → SameButFirst (wroteFields a row) (wroteFields (unextended a) row)
-unfolding wroteFields
+unfolding wroteFields fieldsOf
 row-unextended a row = go (a .outcome)
   where
     fields : SameButFirst (handed (numberOf a) (fieldsOf a) row) (handed (numberOf a) (fieldsOf (unextended a)) row)
-    unfolding fieldsOf
     fields = rw (record-unextended a (a .message)) (handed-but-first (numberOf a) (a .extension) 0 (recordFields a (a .message)) row)
 
     go : (o : Outcome) → SameButFirst (wroteBy o a row) (wroteBy o (unextended a) row)
