@@ -12,12 +12,12 @@ use Rattle.bits.specs.declared.refusal.Refusal.the-variants.{Short, Rule}
 use Rattle.format.specs.Format.{elementFront, run, runAt, times}
 use Rattle.format.proofs.Worked.{Worked, row, row-at}
 use Rattle.numbers.specs.Depth.{depthBits}
-use Rattle.numbers.specs.declared.depth.DepthNumber.{DepthNumber}
 use Rattle.numbers.specs.declared.depth.DepthNumber.the-variants.{Unspecified, Number}
 use Rattle.depth_parts.specs.Element.{absent, element, elementIf}
 use Rattle.depth_parts.specs.Model.{numbers, noModel, model}
 use Rattle.depth.specs.Depth.{flags, refView, values, zeros, depthOf, depth}
 use Rattle.depth_parts.specs.declared.element.DepthValue.{DepthValue}
+use Rattle.depth_parts.proofs.Examples.{value}
 use Rattle.depth.specs.declared.Flags.{Flags}
 use Rattle.depth.specs.declared.Values.{Values}
 
@@ -30,10 +30,6 @@ these near far least most = record { «z_near» = near; «z_far» = far; «d_min
 
 abbrev none : Values
 none = these absent absent absent absent
-
--- sign, exponent, length of the mantissa less one, mantissa, and the number
-abbrev value : ℕ → ℕ → ℕ → ℕ → DepthNumber → DepthValue
-value s e l n x = record { sign = s; exponent = e; «length_minus1» = l; mantissa = n; number = x }
 
 -- Nothing but flags and a type: the record of zeros. Disparities with a reference view, 2 and a zero whose sign is 1; type 2 has no list. Exponent
 -- 127 is unspecified, and its mantissa of 3 bits is read. A least disparity of -1.5 alone. The bits, in the order of 8.22.1: the four flags, type,

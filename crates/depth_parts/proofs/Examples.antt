@@ -1,5 +1,6 @@
 -- The parts of kind 177: a depth element, and the list. An element's parts have four widths.
 -- Assumes nothing.
+use Prim.Native.Nat.{ℕ}
 use mathlib.Core.Path.{refl}
 use mathlib.Core.List.{[], _∷_}
 use lib.ListN.{replicate}
@@ -11,9 +12,15 @@ use Rattle.bits.specs.declared.refusal.Refusal.the-variants.{Short}
 use Rattle.format.specs.Format.{elementFront, run, runAt, times}
 use Rattle.format.proofs.Worked.{Worked, row}
 use Rattle.numbers.specs.Depth.{depthBits}
+use Rattle.numbers.specs.declared.depth.DepthNumber.{DepthNumber}
 use Rattle.numbers.specs.declared.depth.DepthNumber.the-variants.{Number}
 use Rattle.depth_parts.specs.Element.{element}
 use Rattle.depth_parts.specs.Model.{numbers, noModel, model}
+use Rattle.depth_parts.specs.declared.element.DepthValue.{DepthValue}
+
+-- sign, exponent, length of the mantissa less one, mantissa, and the number
+abbrev pub value : ℕ → ℕ → ℕ → ℕ → DepthNumber → DepthValue
+value s e l n x = record { sign = s; exponent = e; «length_minus1» = l; mantissa = n; number = x }
 
 -- -13, which is -(2^3 × (1 + 5/8)); 12 / 2^35, the exponent being 0; a mantissa that lacks a bit. The bits, in the order of H.274's table: sign,
 -- exponent, length less one, mantissa.
@@ -21,8 +28,8 @@ use Rattle.depth_parts.specs.Model.{numbers, noModel, model}
 --   00 23 00  0 0000000 00100 01100
 elements :
     Worked element
-    (row (0xa2 ∷ 0x15 ∷ []) (taken (record { sign = 1; exponent = 34; «length_minus1» = 2; mantissa = 5; number = Number (ofBits binary64 0xc02a_0000_0000_0000) }) 16)
-    ∷ row (0x00 ∷ 0x23 ∷ 0x00 ∷ []) (taken (record { sign = 0; exponent = 0; «length_minus1» = 4; mantissa = 12; number = Number (ofBits binary64 0x3df8_0000_0000_0000) }) 18)
+    (row (0xa2 ∷ 0x15 ∷ []) (taken (value 1 34 2 5 (Number (ofBits binary64 0xc02a_0000_0000_0000))) 16)
+    ∷ row (0x00 ∷ 0x23 ∷ 0x00 ∷ []) (taken (value 0 0 4 12 (Number (ofBits binary64 0x3df8_0000_0000_0000))) 18)
     ∷ row (0xa2 ∷ 0x1d ∷ []) (refused Short)
     ∷ [])
 unfolding element depthBits runAt run elementFront uFront from part number bitAt
