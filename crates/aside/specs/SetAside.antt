@@ -1,4 +1,4 @@
--- Which messages are set aside: 01, "Set aside".
+-- Which messages are set aside: RULES 9.
 use Prim.Native.Nat.{ℕ, _^_}
 use mathlib.Core.Bool.{Bool, not, _&&_, _||_}
 use lib.Dec.{leb, ltb, eqb}

@@ -1,4 +1,4 @@
-// Which messages of kind 45 are set aside: 01, "Set aside". A reader asks this of a message that it has otherwise taken.
+// Which messages of kind 45 are set aside: RULES 9. A reader asks this of a message that it has otherwise taken.
 use frame_packing::FramePacking;
 ghost use mathlib.Core.Path.{_≡_};
 ghost use Rattle.aside.specs.SetAside.{reservedId, reservedType, setAside};

@@ -29,7 +29,7 @@ flagsTable = do
 unfoldable pub flags : Format Flags
 flags = flagsTable
 
--- "the reference view ue(v) if d min or d max is present"
+-- the reference view is there where d min or d max is: RULES 4.177
 abbrev pub refViewTable : ℕ → ℕ → Format ℕ
 refViewTable «d_min_flag» «d_max_flag» = if (eqb «d_min_flag» 1 || eqb «d_max_flag» 1) then ue else (done 0)
 

@@ -31,7 +31,7 @@ element = elementTable
 abbrev pub absent : DepthValue
 absent = record { sign = 0; exponent = 0; «length_minus1» = 0; mantissa = 0; number = Absent }
 
--- "It is absent exactly where its flag is 0"
+-- absent exactly where its flag is 0: RULES 5
 abbrev pub elementIfTable : ℕ → Format DepthValue
 elementIfTable flag = if eqb flag 1 then element else (done absent)
 

@@ -1,4 +1,4 @@
--- Kind 150 at its edges. The payloads of 01 are the reader's.
+-- Kind 150 at its edges; no two elements of one width agree in all rows. The payloads of RULES 14 are the reader's.
 -- Assumes nothing.
 use Prim.Native.Nat.{ℕ}
 use mathlib.Core.Path.{refl}
@@ -24,11 +24,16 @@ bare :
 unfolding equirectangular runAt run elementFront uFront from part number bitAt
 bare = refl
 
--- A coded type of 0 breaks no rule, and 4 is handed out as 0; left stands before right. The right width lacks.
+-- A coded type of 0 breaks no rule, and 4 is handed out as 0; left stands before right. The right width lacks. The bits, in the order of 8.15.2.1:
+-- cancel, persistence, guard flag, reserved, guard type, left and right width.
+--   60 08 09  0 1 1 00 000 00001000 00001001
+--   64 ff 01  0 1 1 00 100 11111111 00000001
+--   3a 03 07  0 0 1 11 010 00000011 00000111
 guarded :
     Worked equirectangular
     (row (0x60 ∷ 8 ∷ 9 ∷ []) (fields 0 1 1 0 8 9 24)
     ∷ row (0x64 ∷ 255 ∷ 1 ∷ []) (fields 0 1 1 0 255 1 24)
+    ∷ row (0x3a ∷ 3 ∷ 7 ∷ []) (fields 0 0 1 2 3 7 24)
     ∷ row (0x63 ∷ 8 ∷ []) (refused Short)
     ∷ [])
 unfolding equirectangular guardBand runAt run elementFront uFront from part number bitAt

@@ -36,8 +36,8 @@ impl GuardBandRead {
     }
 }
 
-// Zeros at the same cursor where the guard flag is not 1. Rule 5 is on the guard types "of kind 155": with the flag 1 `guard_type`
-// finds every code fine.
+// Zeros at the same cursor where the guard flag is not 1. RULES 8 judges guard types of kind 155 alone: with the flag 1
+// `guard_type` finds every code fine.
 pub(crate) fn guard_band(s: &[u8], c: Cursor, guarded: u8) -> GuardBandRead
     requires { ⌜ Payload (now s) ⌝ }
     ensures { λ r. ⌜ bandAnswer r ≡ runAt (if eqb guarded 1 then guardBand else (done noBand)) (now (s .entry)) (c .at) ⌝ }

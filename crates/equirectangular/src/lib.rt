@@ -18,7 +18,7 @@ pub struct Equirectangular {
     pub cancel: u8,
     pub persistence: u8,
     pub guarded: u8,
-    // "Guard band types 4 to 7 are handed out as 0."
+    // Reserved types, 4 to 7, are 0 here: RULES 3.
     pub guard_type: u8,
     pub left_width: u8,
     pub right_width: u8,

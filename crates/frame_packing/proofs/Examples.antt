@@ -1,4 +1,4 @@
--- Payloads of kind 45 at its edges. Those of 01 are the reader's.
+-- Payloads of kind 45 at its edges, over which no two elements of one width agree in all rows. Those of RULES 14 are the reader's.
 -- Assumes nothing.
 use Prim.Native.Nat.{ℕ}
 use mathlib.Core.Path.{refl}
@@ -40,7 +40,11 @@ flags-of a b c d e f =
       «frame1_self_contained» = f;
     }
 
--- The largest id. Of id 7 and a cancel the upsampled flag lacks.
+-- x and y of frame 0, then of frame 1
+abbrev grid-of : ℕ → ℕ → ℕ → ℕ → Grid
+grid-of a b c d = record { «frame0_x» = a; «frame0_y» = b; «frame1_x» = c; «frame1_y» = d }
+
+-- The largest id, whose code is 31 zeros, a one and 31 ones. Of id 7 and a cancel the upsampled flag lacks.
 cancels :
     Worked framePacking
     (row (0x00 ∷ 0x00 ∷ 0x00 ∷ 0x01 ∷ 0xff ∷ 0xff ∷ 0xff ∷ 0xff ∷ 0x80 ∷ []) (taken (cancel-of 4294967294 1) 65)
@@ -49,14 +53,18 @@ cancels :
 unfolding framePacking runAt run elementFront ueAfter uFront from part number bitAt
 cancels = refl
 
--- Type 5 has no grid positions, nor has quincunx sampling, with flags that
--- 000 forbids to encoders; a reserved type has them.
+-- Type 5 has no grid positions, nor has quincunx sampling, with flags that H.274 forbids to encoders; a reserved type has them, and type 4. The
+-- bits, in the order of 8.6.1: id, cancel, type, quincunx, content interpretation, the six flags, the grid, the reserved byte, persistence, upsampled.
+--   82 81 1c 01        1 0 0000101 0 000001 0 0 0 1 1 1                     00000000 0 1
+--   81 c2 66 97        1 0 0000011 1 000010 0 1 1 0 0 1                     10100101 1 1
+--   a6 80 a8 48 d0 02  1 0 1001101 0 000000 1 0 1 0 1 0 0001 0010 0011 0100 00000000 1 0
+--   82 01 c3 0d 2c 03  1 0 0000100 0 000001 1 1 0 0 0 0 1100 0011 0100 1011 00000000 1 1
 messages :
     Worked framePacking
-    (row (0x82 ∷ 0x81 ∷ 0x18 ∷ 0x01 ∷ []) (taken (message-of 5 0 1 (flags-of 0 0 0 1 1 0) noGrid 0 1) 32)
-    ∷ row (0x81 ∷ 0xc2 ∷ 0x5a ∷ 0x97 ∷ []) (taken (message-of 3 1 2 (flags-of 0 1 0 1 1 0) noGrid 1 1) 32)
-    ∷ row (0xa6 ∷ 0x80 ∷ 0x80 ∷ 0x48 ∷ 0xd0 ∷ 0x02 ∷ [])
-    (taken (message-of 77 0 0 (flags-of 1 0 0 0 0 0) (record { «frame0_x» = 1; «frame0_y» = 2; «frame1_x» = 3; «frame1_y» = 4 }) 1 0) 48)
+    (row (0x82 ∷ 0x81 ∷ 0x1c ∷ 0x01 ∷ []) (taken (message-of 5 0 1 (flags-of 0 0 0 1 1 1) noGrid 0 1) 32)
+    ∷ row (0x81 ∷ 0xc2 ∷ 0x66 ∷ 0x97 ∷ []) (taken (message-of 3 1 2 (flags-of 0 1 1 0 0 1) noGrid 1 1) 32)
+    ∷ row (0xa6 ∷ 0x80 ∷ 0xa8 ∷ 0x48 ∷ 0xd0 ∷ 0x02 ∷ []) (taken (message-of 77 0 0 (flags-of 1 0 1 0 1 0) (grid-of 1 2 3 4) 1 0) 48)
+    ∷ row (0x82 ∷ 0x01 ∷ 0xc3 ∷ 0x0d ∷ 0x2c ∷ 0x03 ∷ []) (taken (message-of 4 0 1 (flags-of 1 1 0 0 0 0) (grid-of 12 3 4 11) 1 1) 48)
     ∷ [])
 unfolding framePacking arrangement sixFlags gridPositions runAt run elementFront ueAfter uFront from part number bitAt
 messages = refl

@@ -1,4 +1,4 @@
--- Kind 47: a message with reserved bits, which say nothing, and a cancel. The payloads of 01 are run.
+-- Kind 47: a message with reserved bits, which say nothing, and a cancel; no two elements of one width agree in both. The payloads of RULES 14 are run.
 -- Assumes nothing.
 use mathlib.Core.Path.{refl}
 use mathlib.Core.List.{[], _∷_}
@@ -9,7 +9,10 @@ use Rattle.format.specs.Format.{elementFront, run, runAt}
 use Rattle.format.proofs.Worked.{Worked, row}
 use Rattle.orientation.specs.Orientation.{orientation}
 
--- transform 2, and all of its eight bits are the message; and a cancel, of one bit
+-- Transform 2, and all of its eight bits are the message; and a cancel, of one bit. The bits, in the order of 8.25.1: cancel, persistence, transform,
+-- reserved.
+--   57  0 1 010 111
+--   c0  1
 payloads :
     Worked orientation
     (row (0x57 ∷ []) (taken (record { cancel = 0; persistence = 1; transform = 2 }) 8)

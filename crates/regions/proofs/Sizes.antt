@@ -1,4 +1,4 @@
--- 01's sizes: "without guard bands a region is 25 bytes, with them 31; the part before the regions is 14 bytes".
+-- The sizes of RULES 4.155: a region is 25 bytes without guard bands and 31 with them, and what stands before the regions is 14 bytes.
 -- Assumes nothing.
 use Prim.Native.Nat.{ℕ, suc, _+_, _*_}
 use mathlib.Core.Path.{_≡_, refl, sym, ap, subst}

@@ -1,4 +1,5 @@
--- Kind 154: the ends of its ranges, reserved bits, and payloads that break off. The payloads of 01 are the reader's.
+-- Kind 154: the ends of its ranges, reserved bits, and payloads that break off; no two elements of one width agree in all rows. The payloads of
+-- RULES 14 are the reader's.
 -- Assumes nothing.
 use Prim.Native.Nat.{ℕ}
 use mathlib.Core.Path.{refl}
@@ -70,10 +71,12 @@ turns :
 unfolding rotation angleIn runAt run elementFront uFront from part number bitAt signedOf degreeBits
 turns = refl
 
--- reserved bits say nothing; a rule is judged at its element, before a later one lacks; a roll that lacks a byte
+-- Reserved bits say nothing: 7f is 0 1 111111, not cancelled and persistent. After it yaw, pitch and roll of 1, 2 and -3 degrees, of 65,536 each, in
+-- the order of 8.15.4.1. A rule is judged at its element, before a later one lacks; a roll that lacks a byte.
 others :
     Worked rotation
-    (row (message 0x7f none none none) (pitched (pos 0) 0)
+    (row (message 0x7f (four 0x00 0x01 0x00 0x00) (four 0x00 0x02 0x00 0x00) (four 0xff 0xfd 0x00 0x00))
+    (taken (rotated (pos 65_536) 0x3ff0_0000_0000_0000 (pos 131_072) 0x4000_0000_0000_0000 (negsuc 196_607) 0xc008_0000_0000_0000) 104)
     ∷ row (message 0x40 (four 0x00 0xb4 0x00 0x00) (λ rest. rest) (λ rest. rest)) (refused Rule)
     ∷ row (message 0x40 none none (λ rest. 0 ∷ 0 ∷ 0 ∷ rest)) (refused Short)
     ∷ [])

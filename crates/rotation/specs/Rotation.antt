@@ -12,7 +12,7 @@ use Rattle.rotation.specs.declared.RotationRead.the-variants.{Taken, Ref
 use Rattle.rotation.specs.declared.angle.AngleRead.{AngleRead}
 use Rattle.rotation.specs.declared.angle.AngleRead.the-variants as angle-read
 
--- "Yaw and roll from -11,796,480 to 11,796,479; pitch from -5,898,240 to 5,898,240": `negsuc n` is -(n + 1)
+-- RULES 8: yaw and roll from -11,796,480 to 11,796,479, pitch from -5,898,240 to 5,898,240. `negsuc n` is -(n + 1)
 abbrev pub turn : ℤ → Verdict
 turn = between (negsuc 11_796_479) (pos 11_796_479)
 

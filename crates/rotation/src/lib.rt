@@ -31,7 +31,7 @@ pub struct Rotation {
     pub yaw: i32,
     pub pitch: i32,
     pub roll: i32,
-    // "The record also gives the rotation in degrees".
+    // The rotation in degrees: RULES 4.154.
     pub degrees: Degrees,
 }
 

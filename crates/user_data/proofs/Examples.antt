@@ -17,7 +17,8 @@ use Rattle.user_data.specs.declared.registered.Registered.{Registered}
 abbrev coded : ℕ → ℕ → ℕ → Out Registered
 coded country extension end = taken (record { «country_code» = country; «extension_byte» = extension }) end
 
--- Kind 4. B5, with an empty rest, and with one that is no matter of the head; 255 has an extension byte, and 254 has none; it lacks; nothing.
+-- Kind 4, byte by byte in the order of 8.3.1. B5, with an empty rest, and with one that is no matter of the head; 255 has an extension byte, and 254
+-- has none; it lacks; nothing.
 registered-heads :
     Worked registered
     (row (0xb5 ∷ []) (coded 181 0 8)
@@ -33,7 +34,7 @@ registered-heads = refl
 abbrev bytes-before : List ℕ → List ℕ
 bytes-before rest = 0 ∷ 1 ∷ 2 ∷ 3 ∷ 4 ∷ 5 ∷ 6 ∷ 7 ∷ 8 ∷ 9 ∷ 10 ∷ 11 ∷ 12 ∷ 13 ∷ 14 ∷ rest
 
--- Kind 5. One element of 128 bits: with a byte less there is none of it.
+-- Kind 5. One element of 128 bits, its bytes as they stand: with a byte less there is none of it.
 unregistered-heads :
     Worked unregistered
     (row (bytes-before (15 ∷ [])) (taken (record { identifier = bytes-before (15 ∷ []) }) 128) ∷ row (bytes-before []) (refused Short) ∷ [])
