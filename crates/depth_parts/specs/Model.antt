@@ -18,7 +18,7 @@ most = 63
 abbrev pub number : Format ℕ
 number = ue must atMost 65535
 
--- "every list entry past its count" is 0
+-- every entry past the count is 0: RULES 3.3
 unfoldable pub numbers : ℕ → Format (List ℕ)
 numbers count = listed most 0 count number
 
