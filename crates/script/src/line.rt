@@ -13,7 +13,6 @@ use crate::wrong;
 use crate::wrong::At;
 use crate::wrong::wrong;
 use lent::front;
-use print::text;
 use words::number::Spelled;
 use words::place::content;
 ghost use mathlib.Core.Path.{_≡_};
@@ -115,18 +114,6 @@ fn spelled(line: u64, s: &[u8], out: &mut [u8]) -> Call
     }
 }
 
-// What goes before an answer: the call itself.
-fn echo(call: Call, s: &[u8]) {
-    match call {
-        Call::Help => {}
-        Call::Nothing => {}
-        _ => {
-            text(s);
-            text(b": ");
-        }
-    }
-}
-
 // A line without the byte order mark that a script may start with.
 fn unmarked(line: u64, s: &[u8]) -> &[u8]
     ensures { λ r. ⌜ now r ≡ unmarkedOf line (now (s .entry)) ⌝ }
@@ -143,7 +130,7 @@ fn unmarked(line: u64, s: &[u8]) -> &[u8]
     s
 }
 
-// The call that a line spells, which is written, and its bytes, which are lent; or what is wrong is said.
+// The call that a line spells, and its bytes, which are lent; or what is wrong is said.
 pub fn call(input: Input, line: &[u8; LINE], out: &mut [u8; BYTES]) -> Call
     ensures { λ r. ⌜ left r (now (out .exit)) ≡ callOf (input .line) (input .length) (now (line .entry)) (now (out .entry)) ⌝ }
 {
@@ -155,7 +142,5 @@ pub fn call(input: Input, line: &[u8; LINE], out: &mut [u8; BYTES]) -> Call
     if s.len() == 0 {
         return Call::Nothing;
     }
-    let r = spelled(input.line, s, out);
-    echo(r, s);
-    r
+    spelled(input.line, s, out)
 }

@@ -51,9 +51,8 @@ returns-2 c =
 
 returns-3 : tie.Need-returns-3
 returns-3 c =
-    let spelled = c .before in
-    let s = spelled .before .before .before in
-    spelled .spelled .ensures ∙ content _ (said s) ∙ fits _ _ _ _ (s .before .before .before .before .if1 .left)
+    let s = c .before .before .before in
+    c .spelled .ensures ∙ content _ (said s) ∙ fits _ _ _ _ (s .before .before .before .before .if1 .left)
 
 pub call-spec : {M : Type 1} → statement M
 call-spec =
@@ -65,6 +64,5 @@ call-spec =
     (λ c κs. search needs)
     (λ c κs. search needs)
     returns-2
-    (λ c κs. search needs)
     (λ c κs. search needs)
     returns-3)
