@@ -1,17 +1,17 @@
 // What goes before an answer: the call itself.
-use lent::front;
 use print::ROOM;
 use print::text;
 use script::call::Call;
+use script::input::Input;
 use script::input::LINE;
-use words::place::content;
+use script::line::said;
 
-pub fn echo(out: &mut [u8; ROOM], call: Call, line: &[u8; LINE], length: usize) {
+pub fn echo(out: &mut [u8; ROOM], call: Call, input: Input, line: &[u8; LINE]) {
     match call {
         Call::Help => {}
         Call::Nothing => {}
         _ => {
-            text(out, content(front(line, length)));
+            text(out, said(input, line));
             text(out, b": ");
         }
     }

@@ -30,7 +30,7 @@ fn main() {
         input = input.next(&mut chunk, &mut line);
         if input.whole {
             let asked = call(input, &line, &mut bytes);
-            echo(&mut out, asked, &line, input.length);
+            echo(&mut out, asked, input, &line);
             slots = answer(&mut out, slots, asked, &bytes);
             flush(&mut out);
         }

@@ -74,9 +74,13 @@ mark = 239 ∷ 187 ∷ 191 ∷ []
 unfoldable pub unmarkedOf : ℕ → List ℕ → List ℕ
 unmarkedOf number s = cond (eqb number 1) (cond (alike (take 3 s) mark) (drop 3 s) s) s
 
--- the call of a line of n characters, by its number; one of 32768 or more is too long
+-- what a line of n characters says
+unfoldable pub saidOf : ℕ → ℕ → List ℕ → List ℕ
+saidOf number n line = contentOf (unmarkedOf number (take n line))
+
+-- the call that it spells; a line of 32768 characters or more is too long
 unfoldable pub callOf : ℕ → ℕ → List ℕ → List ℕ → Left Call
-callOf number n line lent = cond (ltb n 32768) (spelledOf (contentOf (unmarkedOf number (take n line))) lent) (left Nothing lent)
+callOf number n line lent = cond (ltb n 32768) (spelledOf (saidOf number n line) lent) (left Nothing lent)
 
 -- ---- the calls by their places in the list of names
 

@@ -19,7 +19,7 @@ ghost use mathlib.Core.Path.{_≡_};
 ghost use Rattle.script.specs.Words.{lastOf};
 ghost use Rattle.script.specs.Payload.{payloadOf};
 ghost use Rattle.lent.specs.Lent.{left};
-ghost use Rattle.script.specs.Line.{numbered, slotCall, tableOf, feedOf, helpOf, readCall, withPayload, spelledOf, unmarkedOf, callOf};
+ghost use Rattle.script.specs.Line.{numbered, slotCall, tableOf, feedOf, helpOf, readCall, withPayload, spelledOf, unmarkedOf, saidOf, callOf};
 
 // More than a payload may have, so that its refusal can be seen.
 pub const BYTES: usize = 10000;
@@ -130,6 +130,13 @@ fn unmarked(line: u64, s: &[u8]) -> &[u8]
     s
 }
 
+// What a line says.
+pub fn said(input: Input, line: &[u8; LINE]) -> &[u8]
+    ensures { λ r. ⌜ now r ≡ saidOf (input .line) (input .length) (now (line .entry)) ⌝ }
+{
+    content(unmarked(input.line, front(line, input.length)))
+}
+
 // The call that a line spells, and its bytes, which are lent; or what is wrong is said.
 pub fn call(input: Input, line: &[u8; LINE], out: &mut [u8; BYTES]) -> Call
     ensures { λ r. ⌜ left r (now (out .exit)) ≡ callOf (input .line) (input .length) (now (line .entry)) (now (out .entry)) ⌝ }
@@ -138,7 +145,7 @@ pub fn call(input: Input, line: &[u8; LINE], out: &mut [u8; BYTES]) -> Call
         wrong::long(input.line);
         return Call::Nothing;
     }
-    let s = content(unmarked(input.line, front(line, input.length)));
+    let s = said(input, line);
     if s.len() == 0 {
         return Call::Nothing;
     }
