@@ -9,11 +9,11 @@ use Rattle.desk.proofs.picture.pictured.Reads as pictured-reads
 use Rattle.desk.proofs.read.feed.Kinds as feed-kinds
 use Rattle.desk.proofs.read.feed.Reads as feed-reads
 
-pub answer-determined : Determines 1 answer-kinds.ps answer-kinds.r answer-reads.Post
+pub answer-determined : Determines 2 answer-kinds.ps answer-kinds.r answer-reads.Post
 answer-determined κs a x y s t p q = p ∙ sym q
 
-pub pictured-determined : Determines 0 pictured-kinds.ps pictured-kinds.r pictured-reads.Post
+pub pictured-determined : Determines 1 pictured-kinds.ps pictured-kinds.r pictured-reads.Post
 pictured-determined κs a x y s t p q = p ∙ sym q
 
-pub feed-determined : Determines 1 feed-kinds.ps feed-kinds.r feed-reads.Post
+pub feed-determined : Determines 2 feed-kinds.ps feed-kinds.r feed-reads.Post
 feed-determined κs a x y s t p q = p ∙ sym q

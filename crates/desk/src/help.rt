@@ -1,24 +1,26 @@
 // What the tool does, for someone with nobody to ask.
+use print::ROOM;
 use print::numbered;
 use print::text;
 use show::number::sentence;
 
-fn meaning(n: u32) {
-    numbered(b"\n  #  ", n as u64);
-    sentence(n);
+fn meaning(out: &mut [u8; ROOM], n: u32) {
+    numbered(out, b"\n  #  ", n as u64);
+    sentence(out, n);
 }
 
-fn meanings() {
+fn meanings(out: &mut [u8; ROOM]) {
     let mut n: u32 = 0;
     while n < 11 {
-        meaning(n);
+        meaning(out, n);
         n += 1;
     }
-    meaning(20);
+    meaning(out, 20);
 }
 
-pub fn help() {
+pub fn help(out: &mut [u8; ROOM]) {
     text(
+        out,
         b"Bruskelde reads SEI messages (H.274) and keeps what eight slots hold.\n\n\
         \x20 ./bruskelde 45 81 81 00 00 00 02          explains a payload: its kind, then its bytes\n\
         \x20 ./bruskelde FILE                          runs a script of calls\n\
@@ -41,6 +43,6 @@ pub fn help() {
         \x20 155 region-wise packing          165 alpha channel information  177 depth representation information\n\n\
         Numbers that a call answers (0 is done for a call that reads nothing):",
     );
-    meanings();
-    text(b"\n");
+    meanings(out);
+    text(out, b"\n");
 }

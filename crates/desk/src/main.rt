@@ -1,11 +1,16 @@
 // The bench desk: calls from standard input, one a line, and after each what it answers.
 mod answer;
+mod echo;
 mod help;
 mod picture;
 mod read;
+mod status;
 mod table;
 
 use answer::answer;
+use echo::echo;
+use print::ROOM;
+use print::flush;
 use script::input::CHUNK;
 use script::input::Input;
 use script::input::LINE;
@@ -17,6 +22,7 @@ fn main() {
     let mut chunk = [0u8; CHUNK];
     let mut line = [0u8; LINE];
     let mut bytes = [0u8; BYTES];
+    let mut out = [0u8; ROOM];
     let mut input = Input::start();
     let mut slots = Slots::start();
     let mut turns: u64 = 18446744073709551615;
@@ -24,7 +30,9 @@ fn main() {
         input = input.next(&mut chunk, &mut line);
         if input.whole {
             let asked = call(input, &line, &mut bytes);
-            slots = answer(slots, asked, &bytes);
+            echo(&mut out, asked, input, &line);
+            slots = answer(&mut out, slots, asked, &bytes);
+            flush(&mut out);
         }
         if input.over {
             return;

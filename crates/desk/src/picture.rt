@@ -1,10 +1,12 @@
 // What a picture answers: the held records, each on a line of its own.
+use crate::status::status;
 use held::Held;
 use held::HeldEquirectangular;
 use held::HeldFramePacking;
 use held::HeldOrientation;
 use held::HeldPacking;
 use held::HeldRotation;
+use print::ROOM;
 use print::text;
 use show::number::called;
 use slots::Pictured;
@@ -12,60 +14,61 @@ use slots::Slots;
 ghost use mathlib.Core.Path.{_≡_};
 
 // A kind's record, and whether one is held.
-fn line(kind: u64, on: u8, row: &[u64]) -> bool {
+fn line(out: &mut [u8; ROOM], kind: u64, on: u8, row: &[u64]) -> bool {
     if on == 1 {
-        show::answer::held(kind, row);
+        show::answer::held(out, kind, row);
         return true;
     }
     false
 }
 
-fn frame_packing(held: HeldFramePacking) -> bool {
+fn frame_packing(out: &mut [u8; ROOM], held: HeldFramePacking) -> bool {
     let row = fields::record::frame_packing(0, held.value);
-    line(45, held.on, &row)
+    line(out, 45, held.on, &row)
 }
 
-fn orientation(held: HeldOrientation) -> bool {
+fn orientation(out: &mut [u8; ROOM], held: HeldOrientation) -> bool {
     let row = fields::record::orientation(0, held.value);
-    line(47, held.on, &row)
+    line(out, 47, held.on, &row)
 }
 
-fn equirectangular(held: HeldEquirectangular) -> bool {
+fn equirectangular(out: &mut [u8; ROOM], held: HeldEquirectangular) -> bool {
     let row = fields::record::equirectangular(0, held.value);
-    line(150, held.on, &row)
+    line(out, 150, held.on, &row)
 }
 
-fn rotation(held: HeldRotation) -> bool {
+fn rotation(out: &mut [u8; ROOM], held: HeldRotation) -> bool {
     let row = fields::record::rotation(0, held.value);
-    line(154, held.on, &row)
+    line(out, 154, held.on, &row)
 }
 
-fn packing(held: HeldPacking) -> bool {
+fn packing(out: &mut [u8; ROOM], held: HeldPacking) -> bool {
     let row = fields::record::packing(0, held.value);
-    line(155, held.on, &row)
+    line(out, 155, held.on, &row)
 }
 
-fn records(held: Held) {
-    let some = frame_packing(held.frame_packing)
-        | orientation(held.orientation)
-        | equirectangular(held.equirectangular)
-        | rotation(held.rotation)
-        | packing(held.regions);
+fn records(out: &mut [u8; ROOM], held: Held) {
+    let some = frame_packing(out, held.frame_packing)
+        | orientation(out, held.orientation)
+        | equirectangular(out, held.equirectangular)
+        | rotation(out, held.rotation)
+        | packing(out, held.regions);
     if !some {
-        text(b", nothing is held");
+        text(out, b", nothing is held");
     }
 }
 
 // The number and, unless the call is refused, what is held.
-pub fn pictured(r: Pictured) -> Slots
+pub fn pictured(out: &mut [u8; ROOM], r: Pictured) -> Slots
     ensures { λ s. ⌜ s ≡ r .slots ⌝ }
 {
     let answer = r.answer;
     let n = answer.number();
-    called(n);
+    called(out, n);
+    status(n);
     if n == 0 {
-        records(r.held);
+        records(out, r.held);
     }
-    text(b"\n");
+    text(out, b"\n");
     r.slots
 }

@@ -1,7 +1,9 @@
 // The calls that read a payload.
+use crate::status::status;
 use answers::Answer;
 use fields::record::PACKING_FIELDS;
 use lent::front;
+use print::ROOM;
 use reader::payload;
 use reader::user::user_part;
 use script::call::Payload;
@@ -12,24 +14,25 @@ ghost use mathlib.Core.Path.{_≡_};
 ghost use lib.ListN.{take};
 ghost use Rattle.feeding.specs.Feed.{fedTo};
 
-fn shown(style: Style, answer: Answer, p: Payload, bytes: &[u8]) {
+fn shown(out: &mut [u8; ROOM], style: Style, answer: Answer, p: Payload, bytes: &[u8]) {
     // a packing has the longest row
     let mut row = [0u64; PACKING_FIELDS];
     let n = handing::write(&mut row, answer);
     let part = user_part(p.kind, p.size, bytes);
-    show::answer::answer(style, n, p.kind, p.size, &row, part);
+    show::answer::answer(out, style, n, p.kind, p.size, &row, part);
+    status(n);
 }
 
-pub fn read(style: Style, p: Payload, lent: &[u8; BYTES]) {
+pub fn read(out: &mut [u8; ROOM], style: Style, p: Payload, lent: &[u8; BYTES]) {
     let bytes = front(lent, p.count);
-    shown(style, payload::read(p.kind, p.size, bytes), p, bytes);
+    shown(out, style, payload::read(p.kind, p.size, bytes), p, bytes);
 }
 
-pub fn feed(slots: Slots, slot: u64, p: Payload, lent: &[u8; BYTES]) -> Slots
+pub fn feed(out: &mut [u8; ROOM], slots: Slots, slot: u64, p: Payload, lent: &[u8; BYTES]) -> Slots
     ensures { λ r. ⌜ r ≡ fedTo slots slot (p .kind) (p .size) (take (p .count) (now (lent .entry))) .slots ⌝ }
 {
     let bytes = front(lent, p.count);
     let fed = feeding::feed(slots, slot, p.kind, p.size, bytes);
-    shown(Style::Line, fed.answer, p, bytes);
+    shown(out, Style::Line, fed.answer, p, bytes);
     fed.slots
 }

@@ -1,4 +1,6 @@
 // The region table of a slot.
+use crate::status::status;
+use print::ROOM;
 use print::numbered;
 use print::text;
 use regions::MOST;
@@ -20,21 +22,25 @@ fn lent(n: u64) -> usize
     NUMBERS
 }
 
-fn shown(r: Tabled, rows: &[u64; NUMBERS]) {
+fn shown(out: &mut [u8; ROOM], r: Tabled, rows: &[u64; NUMBERS]) {
     match r {
         Tabled::Rows(count) => {
-            numbered(b"0 done, rows: #", count as u64);
-            show::table::table(rows, count);
+            numbered(out, b"0 done, rows: #", count as u64);
+            show::table::table(out, rows, count);
         }
-        Tabled::Refused(why) => called(why.number()),
+        Tabled::Refused(why) => {
+            let n = why.number();
+            called(out, n);
+            status(n);
+        }
     }
-    text(b"\n");
+    text(out, b"\n");
 }
 
-pub fn table(slots: Slots, slot: u64, n: u64) {
+pub fn table(out: &mut [u8; ROOM], slots: Slots, slot: u64, n: u64) {
     let mut rows = [0u64; NUMBERS];
     let start = 0;
     let end = lent(n);
     let r = tables::table(slots, slot, &mut rows[start..end]);
-    shown(r, &rows);
+    shown(out, r, &rows);
 }

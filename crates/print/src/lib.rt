@@ -1,30 +1,47 @@
-// Words, numbers and bytes, to standard output.
-use libc::STDOUT_FILENO;
+// Words, numbers and bytes, for standard output; and a mark for whoever runs the program.
+mod buffer;
+
+pub use buffer::ROOM;
+pub use buffer::flush;
+pub use buffer::text;
 use words::place::find;
 
-pub fn text(s: &[u8]) {
-    io::write_all(STDOUT_FILENO, s);
+// The descriptor on which a program's runner learns of wrong lines and refusals: a program has no exit status of its own.
+const MARKS: i32 = 3;
+
+// A mark, for which nobody need listen.
+pub fn mark(b: u8) {
+    io::write_all(MARKS, &[b]);
 }
 
-pub fn number(n: u64) {
-    io::print_decimal(STDOUT_FILENO, n);
+pub fn number(out: &mut [u8; ROOM], n: u64) {
+    let mut digits = [0u8; 20];
+    let k = io::decimal(n, &mut digits);
+    text(out, &digits[..k]);
 }
 
 // A text, with a number at its '#' if it has one.
-pub fn numbered(s: &[u8], n: u64) {
+pub fn numbered(out: &mut [u8; ROOM], s: &[u8], n: u64) {
     let start = 0;
     let hash = find(s, start, b'#');
-    text(&s[start..hash]);
+    text(out, &s[start..hash]);
     if hash < s.len() {
-        number(n);
+        number(out, n);
         let after = hash + 1;
-        text(&s[after..]);
+        text(out, &s[after..]);
     }
 }
 
+// A number in hex, with zeros in front.
+fn hex(out: &mut [u8; ROOM], n: u64, width: usize) {
+    let mut digits = [0u8; 16];
+    let k = io::hex(n, width, &mut digits);
+    text(out, &digits[..k]);
+}
+
 // A float's 64 bits.
-pub fn bits(n: u64) {
-    io::print_hex(STDOUT_FILENO, n, 16);
+pub fn bits(out: &mut [u8; ROOM], n: u64) {
+    hex(out, n, 16);
 }
 
 fn wide(b: u8) -> u64 {
@@ -32,14 +49,14 @@ fn wide(b: u8) -> u64 {
 }
 
 // Bytes in hex, in brackets, so that none at all can be seen.
-pub fn bytes(s: &[u8]) {
-    text(b"[");
+pub fn bytes(out: &mut [u8; ROOM], s: &[u8]) {
+    text(out, b"[");
     let mut i = 0;
     while i < s.len() {
-        io::print_hex(STDOUT_FILENO, wide(s[i]), 2);
+        hex(out, wide(s[i]), 2);
         i += 1;
     }
-    text(b"]");
+    text(out, b"]");
 }
 
 // A byte as it is printed: a dot where it is not printable.
@@ -54,27 +71,27 @@ fn glyph(b: u8) -> u8 {
 }
 
 // Bytes as text.
-pub fn printable(s: &[u8]) {
+pub fn printable(out: &mut [u8; ROOM], s: &[u8]) {
     let mut i = 0;
     while i < s.len() {
-        text(&[glyph(s[i])]);
+        text(out, &[glyph(s[i])]);
         i += 1;
     }
 }
 
 // The nth of the pieces between bars, counted from 0, and the last one for each n past them.
-pub fn piece(s: &[u8], n: u64) {
+pub fn piece(out: &mut [u8; ROOM], s: &[u8], n: u64) {
     let mut at = 0;
     let mut left = n;
     let mut end = find(s, 0, b'|');
     while end < s.len() {
         if left == 0 {
-            text(&s[at..end]);
+            text(out, &s[at..end]);
             return;
         }
         left -= 1;
         at = end + 1;
         end = find(s, at, b'|');
     }
-    text(&s[at..end]);
+    text(out, &s[at..end]);
 }

@@ -1,4 +1,4 @@
--- Each public contract determines its result. That of `call` determines the lent bytes too as it leaves them; that of `Input::next` all but what the
+-- Each public contract determines its result: that of `said` the characters that it hands back. That of `call` determines the lent bytes too as it leaves them; that of `Input::next` all but what the
 -- outside gives: how many bytes a chunk has that is read, and which.
 -- Assumes nothing.
 use Prim.Native.Nat.{ℕ}
@@ -9,16 +9,21 @@ use contract.Lifetimes.{Lfts}
 use denote.Triple.Clauses.{AtExit}
 use denote.Ref.{now}
 use borrow.Fn.Kinds.{Dens, resT, endedOf}
-use Rattle.bits.proofs.Determined.{Determines, DeterminesAll}
+use Rattle.bits.proofs.Determined.{Determines, DeterminesAll, DeterminesPart}
 use Rattle.lent.proofs.Stores.{same-left}
 use Rattle.script.specs.Input.{Step, onwardOf, byteLeft, further, nextOf}
 use Rattle.script.specs.declared.input.Input.{Input}
+use Rattle.script.proofs.line.said.Kinds as said-kinds
+use Rattle.script.proofs.line.said.Reads as said-reads
 use Rattle.script.proofs.line.call.Kinds as call-kinds
 use Rattle.script.proofs.line.call.Reads as call-reads
 use Rattle.script.proofs.input.Input.start.Kinds as start-kinds
 use Rattle.script.proofs.input.Input.start.Reads as start-reads
 use Rattle.script.proofs.input.Input.next.Kinds as next-kinds
 use Rattle.script.proofs.input.Input.next.Reads as next-reads
+
+pub said-determined : DeterminesPart 1 said-kinds.ps said-kinds.r (λ κs x. now x) said-reads.Post
+said-determined κs a x y s t p q = p ∙ sym q
 
 pub call-determined : DeterminesAll 2 call-kinds.ps call-kinds.r (λ κs s. now (s .1 .1 .0)) call-reads.Post
 call-determined κs a x y s t p q = same-left (p ∙ sym q)

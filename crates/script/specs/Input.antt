@@ -10,9 +10,9 @@ use Rattle.script.specs.declared.input.Input.{Input}
 abbrev pub begun : Input
 begun = record { at = 0; end = 0; line = 1; length = 0; whole = false; over = false }
 
--- tabs and carriage returns count as spaces
+-- tabs (9), carriage returns (13), commas (44) and colons (58) count as spaces
 unfoldable pub plainByte : ℕ → ℕ
-plainByte b = cond (eqb b 9) 32 (cond (eqb b 13) 32 b)
+plainByte b = cond (eqb b 9) 32 (cond (eqb b 13) 32 (cond (eqb b 44) 32 (cond (eqb b 58) 32 b)))
 
 -- after a whole line the next one begins
 unfoldable pub onwardOf : Input → Input

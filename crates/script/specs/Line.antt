@@ -3,7 +3,7 @@ use Prim.Native.Nat.{ℕ}
 use mathlib.Core.Bool.{cond}
 use mathlib.Core.List.{List, [], _∷_}
 use lib.Dec.{eqb, ltb}
-use lib.ListN.{take}
+use lib.ListN.{take, drop}
 use Rattle.lent.specs.Lent.{Left, left}
 use Rattle.words.specs.Place.{contentOf}
 use Rattle.words.specs.Number.{numberOf}
@@ -66,9 +66,21 @@ named word s lent =
 unfoldable pub spelledOf : List ℕ → List ℕ → Left Call
 spelledOf s lent = named (firstOf s) (restOf s) lent
 
--- the call of a line of n characters; one of 32768 or more is too long
-unfoldable pub callOf : ℕ → List ℕ → List ℕ → Left Call
-callOf n line lent = cond (ltb n 32768) (spelledOf (contentOf (take n line)) lent) (left Nothing lent)
+-- a byte order mark: EF BB BF
+abbrev pub mark : List ℕ
+mark = 239 ∷ 187 ∷ 191 ∷ []
+
+-- the first line may start with one, which is no part of it
+unfoldable pub unmarkedOf : ℕ → List ℕ → List ℕ
+unmarkedOf number s = cond (eqb number 1) (cond (alike (take 3 s) mark) (drop 3 s) s) s
+
+-- what a line of n characters says
+unfoldable pub saidOf : ℕ → ℕ → List ℕ → List ℕ
+saidOf number n line = contentOf (unmarkedOf number (take n line))
+
+-- the call that it spells; a line of 32768 characters or more is too long
+unfoldable pub callOf : ℕ → ℕ → List ℕ → List ℕ → Left Call
+callOf number n line lent = cond (ltb n 32768) (spelledOf (saidOf number n line) lent) (left Nothing lent)
 
 -- ---- the calls by their places in the list of names
 

@@ -24,13 +24,15 @@ pub struct Input {
     pub over: bool,
 }
 
-// Tabs and carriage returns count as spaces.
+// Tabs, carriage returns, commas and colons count as spaces.
 fn plain(b: u8) -> u8
     ensures { λ r. ⌜ r ≡ plainByte b ⌝ }
 {
     match b {
         b'\t' => b' ',
         b'\r' => b' ',
+        b',' => b' ',
+        b':' => b' ',
         _ => b,
     }
 }

@@ -13,14 +13,13 @@ use crate::wrong;
 use crate::wrong::At;
 use crate::wrong::wrong;
 use lent::front;
-use print::text;
 use words::number::Spelled;
 use words::place::content;
 ghost use mathlib.Core.Path.{_≡_};
 ghost use Rattle.script.specs.Words.{lastOf};
 ghost use Rattle.script.specs.Payload.{payloadOf};
 ghost use Rattle.lent.specs.Lent.{left};
-ghost use Rattle.script.specs.Line.{numbered, slotCall, tableOf, feedOf, helpOf, readCall, withPayload, spelledOf, callOf};
+ghost use Rattle.script.specs.Line.{numbered, slotCall, tableOf, feedOf, helpOf, readCall, withPayload, spelledOf, unmarkedOf, saidOf, callOf};
 
 // More than a payload may have, so that its refusal can be seen.
 pub const BYTES: usize = 10000;
@@ -115,31 +114,40 @@ fn spelled(line: u64, s: &[u8], out: &mut [u8]) -> Call
     }
 }
 
-// What goes before an answer: the call itself.
-fn echo(call: Call, s: &[u8]) {
-    match call {
-        Call::Help => {}
-        Call::Nothing => {}
-        _ => {
-            text(s);
-            text(b": ");
+// A line without the byte order mark that a script may start with.
+fn unmarked(line: u64, s: &[u8]) -> &[u8]
+    ensures { λ r. ⌜ now r ≡ unmarkedOf line (now (s .entry)) ⌝ }
+{
+    if line == 1 {
+        if 3 <= s.len() {
+            let start = 0;
+            let end = 3;
+            if check::same(&s[start..end], b"\xEF\xBB\xBF") {
+                return &s[end..];
+            }
         }
     }
+    s
 }
 
-// The call that a line spells, which is written, and its bytes, which are lent; or what is wrong is said.
+// What a line says.
+pub fn said(input: Input, line: &[u8; LINE]) -> &[u8]
+    ensures { λ r. ⌜ now r ≡ saidOf (input .line) (input .length) (now (line .entry)) ⌝ }
+{
+    content(unmarked(input.line, front(line, input.length)))
+}
+
+// The call that a line spells, and its bytes, which are lent; or what is wrong is said.
 pub fn call(input: Input, line: &[u8; LINE], out: &mut [u8; BYTES]) -> Call
-    ensures { λ r. ⌜ left r (now (out .exit)) ≡ callOf (input .length) (now (line .entry)) (now (out .entry)) ⌝ }
+    ensures { λ r. ⌜ left r (now (out .exit)) ≡ callOf (input .line) (input .length) (now (line .entry)) (now (out .entry)) ⌝ }
 {
     if LINE <= input.length {
         wrong::long(input.line);
         return Call::Nothing;
     }
-    let s = content(front(line, input.length));
+    let s = said(input, line);
     if s.len() == 0 {
         return Call::Nothing;
     }
-    let r = spelled(input.line, s, out);
-    echo(r, s);
-    r
+    spelled(input.line, s, out)
 }

@@ -1,4 +1,5 @@
 // The calls by name. Each has a place in the two lists below; what is no call has the place after them.
+use print::ROOM;
 use print::piece;
 use words::place::find;
 ghost use mathlib.Core.Path.{_≡_};
@@ -50,8 +51,9 @@ pub fn place(word: &[u8]) -> u64
 }
 
 // How the call at a place is written.
-pub fn form(place: u64) {
+pub fn form(out: &mut [u8; ROOM], place: u64) {
     piece(
+        out,
         b"open SLOT|close SLOT|sequence SLOT|picture SLOT|table SLOT NUMBERS|feed SLOT KIND [size=N] BYTES|\
         read KIND [size=N] BYTES|explain KIND [size=N] BYTES|help|\
         open, close, sequence, picture, table, feed, read, explain or help",

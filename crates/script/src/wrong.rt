@@ -1,5 +1,8 @@
 // Lines that are wrong: which, what is wrong, and what is expected.
 use crate::name::form;
+use print::ROOM;
+use print::flush;
+use print::mark;
 use print::numbered;
 use print::piece;
 use print::printable;
@@ -28,8 +31,9 @@ pub const LONG: u64 = 9;
 
 pub const NO_CALL: u64 = 10;
 
-fn reason(why: u64) {
+fn reason(out: &mut [u8; ROOM], why: u64) {
     piece(
+        out,
         b"the slot number is missing|how many numbers are lent is missing|the kind is missing|the size is missing|\
         is no decimal number|does not fit 64 bits|is too much|\
         a byte is two hex digits that stand together|starts with no hex digit|more than 10000 bytes|is no call",
@@ -44,23 +48,34 @@ pub struct At {
 }
 
 // The word that is wrong, if there is one.
-fn quoted(word: &[u8]) {
+fn quoted(out: &mut [u8; ROOM], word: &[u8]) {
     if word.len() != 0 {
-        text(b"'");
-        printable(word);
-        text(b"' ");
+        text(out, b"'");
+        printable(out, word);
+        text(out, b"' ");
     }
 }
 
+// Each of the two marks the line as wrong, and has a buffer of its own, so that what a line spells stays apart from what is written.
 pub fn wrong(at: At, word: &[u8], why: u64) {
-    numbered(b"line #: ", at.line);
-    quoted(word);
-    reason(why);
-    text(b"; expected: ");
-    form(at.call);
-    text(b"\n");
+    let mut out = [0u8; ROOM];
+    numbered(&mut out, b"line #: ", at.line);
+    quoted(&mut out, word);
+    reason(&mut out, why);
+    text(&mut out, b"; expected: ");
+    form(&mut out, at.call);
+    text(&mut out, b"\n");
+    flush(&mut out);
+    mark(b'1');
 }
 
 pub fn long(n: u64) {
-    numbered(b"line #: the line is longer than 32767 characters\n", n);
+    let mut out = [0u8; ROOM];
+    numbered(
+        &mut out,
+        b"line #: the line is longer than 32767 characters\n",
+        n,
+    );
+    flush(&mut out);
+    mark(b'1');
 }

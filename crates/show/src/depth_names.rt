@@ -10,6 +10,7 @@ use crate::names::carried;
 use crate::style::Style;
 use crate::style::apart;
 use crate::style::depth;
+use print::ROOM;
 use print::bits;
 use print::number;
 use print::numbered;
@@ -18,97 +19,99 @@ use print::text;
 ghost use Prim.Native.Nat.{_≤_};
 
 // m × 2^k, which may be too long to be written out.
-fn multiple(m: u64, k: u64) {
+fn multiple(out: &mut [u8; ROOM], m: u64, k: u64) {
     if 30 < k {
-        numbered(b"# x 2^", m);
-        number(k);
+        numbered(out, b"# x 2^", m);
+        number(out, k);
     } else {
-        number(m << k);
+        number(out, m << k);
     }
 }
 
 // m / 2^k, likewise.
-fn part(m: u64, k: u64) {
+fn part(out: &mut [u8; ROOM], m: u64, k: u64) {
     if 61 < k {
-        numbered(b"# x 2^-", m);
-        number(k);
+        numbered(out, b"# x 2^-", m);
+        number(out, k);
     } else {
-        decimal(m, power(k));
+        decimal(out, m, power(k));
     }
 }
 
 // m × 2^(e - 31 - v).
-fn product(m: u64, e: u64, v: u64)
+fn product(out: &mut [u8; ROOM], m: u64, e: u64, v: u64)
     requires { ⌜ v ≤ 32 ⌝ }
 {
     let whole = 31 + v;
     if whole <= e {
-        multiple(m, e - whole);
+        multiple(out, m, e - whole);
     } else {
-        part(m, whole - e);
+        part(out, m, whole - e);
     }
 }
 
 // The number that an exponent e and a mantissa n of v bits stand for.
-fn magnitude(e: u64, v: u64, n: u64)
+fn magnitude(out: &mut [u8; ROOM], e: u64, v: u64, n: u64)
     requires { ⌜ v ≤ 32 ⌝ }
 {
     if e == 0 {
-        product(n, 1, v);
+        product(out, n, 1, v);
     } else {
-        product(power(v) + n % 4294967296, e, v);
+        product(out, power(v) + n % 4294967296, e, v);
     }
 }
 
 // The number in decimal, and its bits; only a negative one has the highest bit set.
-fn specified(row: &[u64], from: usize)
+fn specified(out: &mut [u8; ROOM], row: &[u64], from: usize)
     requires { ⌜ from ≤ 256 ⌝ }
 {
     let pattern = at(row, from + 5);
     if 9223372036854775808 <= pattern {
-        text(b"-");
+        text(out, b"-");
     }
     magnitude(
+        out,
         at(row, from + 1),
         at(row, from + 2) % 32 + 1,
         at(row, from + 3),
     );
-    text(b" ");
-    bits(pattern);
+    text(out, b" ");
+    bits(out, pattern);
 }
 
 // The number, if it is one.
-fn value(row: &[u64], from: usize)
+fn value(out: &mut [u8; ROOM], row: &[u64], from: usize)
     requires { ⌜ from ≤ 256 ⌝ }
 {
     if at(row, from + 4) == 1 {
-        text(b"unspecified");
+        text(out, b"unspecified");
     } else {
-        specified(row, from);
+        specified(out, row, from);
     }
 }
 
 // What a number measures, where it is explained: the first two of the four are depths.
-fn measured(style: Style, flag: usize) {
+fn measured(out: &mut [u8; ROOM], style: Style, flag: usize) {
     let Style::Explained = style else {
         return;
     };
     if flag < 3 {
-        text(b": distance from the camera, its unit not specified;");
+        text(out, b": distance from the camera, its unit not specified;");
     } else {
-        text(b": shift between two views, in luma sample widths;");
+        text(out, b": shift between two views, in luma sample widths;");
     }
 }
 
 // The parts that code a number.
-fn parts(row: &[u64], from: usize) {
-    text(b" from");
+fn parts(out: &mut [u8; ROOM], row: &[u64], from: usize) {
+    text(out, b" from");
     let place = Place {
         from,
         index: 0,
         depth: b'0',
     };
     fields(
+        out,
         Style::Line,
         row,
         place,
@@ -117,33 +120,33 @@ fn parts(row: &[u64], from: usize) {
 }
 
 // A number that is coded.
-fn coded(style: Style, row: &[u64], flag: usize)
+fn coded(out: &mut [u8; ROOM], style: Style, row: &[u64], flag: usize)
     requires { ⌜ flag ≤ 4 ⌝ }
 {
     let from = 6 * flag + 1;
-    value(row, from);
-    measured(style, flag);
-    parts(row, from);
+    value(out, row, from);
+    measured(out, style, flag);
+    parts(out, row, from);
 }
 
 // One of the four numbers, which its flag in the row says is there.
-fn element(style: Style, row: &[u64], flag: usize)
+fn element(out: &mut [u8; ROOM], style: Style, row: &[u64], flag: usize)
     requires { ⌜ flag ≤ 4 ⌝ }
 {
     let there = at(row, flag) == 1;
     if b'1' <= depth(style, there, false) {
-        apart(style);
-        piece(b"|ZNear=|ZFar=|DMin=|DMax=", flag as u64);
+        apart(out, style);
+        piece(out, b"|ZNear=|ZFar=|DMin=|DMax=", flag as u64);
         if there {
-            coded(style, row, flag);
+            coded(out, style, row, flag);
         } else {
-            text(b"absent");
+            text(out, b"absent");
         }
     }
 }
 
 // The list of type 3, which H.274 counts from 1.
-fn list(style: Style, row: &[u64], count: u64) {
+fn list(out: &mut [u8; ROOM], style: Style, row: &[u64], count: u64) {
     let mut i: u64 = 0;
     while i < count {
         if 63 <= i {
@@ -155,6 +158,7 @@ fn list(style: Style, row: &[u64], count: u64) {
             depth: b'0',
         };
         fields(
+            out,
             style,
             row,
             place,
@@ -169,8 +173,9 @@ fn viewed(d_min_flag: u64, d_max_flag: u64) -> bool {
     d_min_flag == 1 || d_max_flag == 1
 }
 
-pub fn depth_information(style: Style, row: &[u64]) {
+pub fn depth_information(out: &mut [u8; ROOM], style: Style, row: &[u64]) {
     fields(
+        out,
         style,
         row,
         carried(style, viewed(at(row, 3), at(row, 4)), false),
@@ -182,18 +187,19 @@ pub fn depth_information(style: Style, row: &[u64]) {
         samples are the distance|samples are disparity, mapped by the list|reserved\n\
         1 disparity_ref_view_id|the view for which disparities are derived",
     );
-    element(style, row, 1);
-    element(style, row, 2);
-    element(style, row, 3);
-    element(style, row, 4);
+    element(out, style, row, 1);
+    element(out, style, row, 2);
+    element(out, style, row, 3);
+    element(out, style, row, 4);
     let count = at(row, 31);
     if 0 < count {
         field(
+            out,
             style,
             carried(style, true, false),
             count - 1,
             b"0 depth_nonlinear_representation_num_minus1|one less than the numbers that follow, two less than the mapping's linear segments",
         );
-        list(style, row, count);
+        list(out, style, row, count);
     }
 }

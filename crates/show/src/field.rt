@@ -1,6 +1,7 @@
 // A field: its name, its value and, where a message is explained, what the value means.
 use crate::style::Style;
 use crate::style::apart;
+use print::ROOM;
 use print::numbered;
 use print::piece;
 use print::text;
@@ -21,18 +22,24 @@ pub fn at(row: &[u64], i: usize) -> u64 {
 }
 
 // Meanings that several kinds share, by a letter.
-fn common(letter: u8, n: u64) {
+fn common(out: &mut [u8; ROOM], letter: u8, n: u64) {
     match letter {
-        b'c' => piece(b"fields follow|ends what is held", n),
-        b'p' => piece(b"this picture only|until the next message or sequence", n),
+        b'c' => piece(out, b"fields follow|ends what is held", n),
+        b'p' => piece(
+            out,
+            b"this picture only|until the next message or sequence",
+            n,
+        ),
         b'g' => piece(
+            out,
             b"content unknown, or coded as 4 to 7|enough content to interpolate between samples|\
             picture content, its quality changing towards the neighbour's|picture content of like quality",
             n,
         ),
-        b'j' => text(b"relative projected picture sample units"),
-        b'k' => text(b"relative packed picture sample units"),
+        b'j' => text(out, b"relative projected picture sample units"),
+        b'k' => text(out, b"relative packed picture sample units"),
         _ => piece(
+            out,
             b"no transform|mirrored horizontally|rotated by 180 degrees anticlockwise|\
             rotated by 180 degrees anticlockwise, then mirrored horizontally|\
             rotated by 90 degrees anticlockwise, then mirrored horizontally|\
@@ -45,41 +52,41 @@ fn common(letter: u8, n: u64) {
 }
 
 // What 0, 1 and so on mean, each after a bar, the last for all that are larger; or one bar, a text, '@' and the letter of a shared meaning.
-fn meaning(s: &[u8], n: u64) {
+fn meaning(out: &mut [u8; ROOM], s: &[u8], n: u64) {
     let start = 1;
     if s.len() <= start {
         return;
     }
-    text(b": ");
+    text(out, b": ");
     let shared = find(s, start, b'@');
     let letter = shared + 1;
     if letter < s.len() {
-        text(&s[start..shared]);
-        common(s[letter], n);
+        text(out, &s[start..shared]);
+        common(out, s[letter], n);
     } else {
-        piece(&s[start..], n);
+        piece(out, &s[start..], n);
     }
 }
 
 // A field by its line: how deep it lies, a space, the name, and after a bar what its values mean.
-pub fn field(style: Style, place: Place, n: u64, line: &[u8]) {
+pub fn field(out: &mut [u8; ROOM], style: Style, place: Place, n: u64, line: &[u8]) {
     let start = 2;
     let bar = find(line, 0, b'|');
     if bar < start {
         return;
     }
     if line[0] <= place.depth {
-        apart(style);
-        numbered(&line[start..bar], place.index);
-        numbered(b"=#", n);
+        apart(out, style);
+        numbered(out, &line[start..bar], place.index);
+        numbered(out, b"=#", n);
         if let Style::Explained = style {
-            meaning(&line[bar..], n);
+            meaning(out, &line[bar..], n);
         }
     }
 }
 
 // The numbers of a row from a place on, one for each line.
-pub fn fields(style: Style, row: &[u64], place: Place, lines: &[u8]) {
+pub fn fields(out: &mut [u8; ROOM], style: Style, row: &[u64], place: Place, lines: &[u8]) {
     let mut i = place.from;
     let mut p = 0;
     while p < lines.len() {
@@ -87,7 +94,7 @@ pub fn fields(style: Style, row: &[u64], place: Place, lines: &[u8]) {
         if row.len() <= i {
             return;
         }
-        field(style, place, row[i], &lines[p..end]);
+        field(out, style, place, row[i], &lines[p..end]);
         if end == lines.len() {
             return;
         }

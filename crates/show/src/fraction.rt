@@ -1,4 +1,5 @@
 // Numbers with a binary fraction, in decimal, to the last digit.
+use print::ROOM;
 use print::number;
 use print::text;
 ghost use mathlib.Core.Path.{_≡_};
@@ -13,7 +14,7 @@ pub fn power(k: u64) -> u64
 }
 
 // The digits of rest / parts, parts being a power of two: ten times a half is five times the whole.
-fn digits(rest: u64, parts: u64)
+fn digits(out: &mut [u8; ROOM], rest: u64, parts: u64)
     requires { ⌜ (rest < parts) × (parts ≤ 2305843009213693952) ⌝ }
 {
     let mut r = rest;
@@ -21,19 +22,19 @@ fn digits(rest: u64, parts: u64)
     while 0 < r {
         p = p / 2;
         r = r * 5;
-        number(r / p);
+        number(out, r / p);
         r = r % p;
     }
 }
 
 // n / parts, parts being a power of two.
-pub fn decimal(n: u64, parts: u64)
+pub fn decimal(out: &mut [u8; ROOM], n: u64, parts: u64)
     requires { ⌜ (0 < parts) × (parts ≤ 2305843009213693952) ⌝ }
 {
-    number(n / parts);
+    number(out, n / parts);
     let rest = n % parts;
     if 0 < rest {
-        text(b".");
-        digits(rest, parts);
+        text(out, b".");
+        digits(out, rest, parts);
     }
 }

@@ -1,4 +1,5 @@
 // The nine kinds by name.
+use print::ROOM;
 use print::piece;
 
 fn place(kind: u64) -> u64 {
@@ -16,8 +17,9 @@ fn place(kind: u64) -> u64 {
     }
 }
 
-pub fn name(kind: u64) {
+pub fn name(out: &mut [u8; ROOM], kind: u64) {
     piece(
+        out,
         b"user data registered by T.35|user data unregistered|frame packing arrangement|display orientation|equirectangular projection|\
         sphere rotation|region-wise packing|alpha channel information|depth representation information|none of the kinds that are read",
         place(kind),

@@ -5,6 +5,7 @@ use crate::field::field;
 use crate::field::fields;
 use crate::style::Style;
 use crate::style::depth;
+use print::ROOM;
 
 // The fields after the extension's length, by the conditions under which the message carries them.
 pub fn carried(style: Style, outer: bool, inner: bool) -> Place {
@@ -26,27 +27,29 @@ fn placed(quincunx: u64, arrangement: u64) -> bool {
 }
 
 // A message that is set aside changes no slot, a cancel neither.
-fn arrangement_cancel(style: Style, place: Place, n: u64, aside: bool) {
+fn arrangement_cancel(out: &mut [u8; ROOM], style: Style, place: Place, n: u64, aside: bool) {
     if aside {
         field(
+            out,
             style,
             place,
             n,
             b"0 fp_arrangement_cancel_flag|fields follow|ends nothing, since the message is set aside",
         );
     } else {
-        field(style, place, n, b"0 fp_arrangement_cancel_flag|@c");
+        field(out, style, place, n, b"0 fp_arrangement_cancel_flag|@c");
     }
 }
 
 // What follows the cancel flag.
-fn arrangement(style: Style, row: &[u64], depth: u8) {
+fn arrangement(out: &mut [u8; ROOM], style: Style, row: &[u64], depth: u8) {
     let place = Place {
         from: 3,
         index: 0,
         depth,
     };
     fields(
+        out,
         style,
         row,
         place,
@@ -69,15 +72,16 @@ fn arrangement(style: Style, row: &[u64], depth: u8) {
     );
 }
 
-pub fn frame_packing(style: Style, row: &[u64], aside: bool) {
+pub fn frame_packing(out: &mut [u8; ROOM], style: Style, row: &[u64], aside: bool) {
     let place = carried(style, at(row, 2) == 0, placed(at(row, 4), at(row, 3)));
-    fields(style, row, place, b"0 fp_arrangement_id");
-    arrangement_cancel(style, place, at(row, 2), aside);
-    arrangement(style, row, place.depth);
+    fields(out, style, row, place, b"0 fp_arrangement_id");
+    arrangement_cancel(out, style, place, at(row, 2), aside);
+    arrangement(out, style, row, place.depth);
 }
 
-pub fn orientation(style: Style, row: &[u64]) {
+pub fn orientation(out: &mut [u8; ROOM], style: Style, row: &[u64]) {
     fields(
+        out,
         style,
         row,
         uncancelled(style, row, 1),
@@ -87,8 +91,9 @@ pub fn orientation(style: Style, row: &[u64]) {
     );
 }
 
-pub fn equirectangular(style: Style, row: &[u64]) {
+pub fn equirectangular(out: &mut [u8; ROOM], style: Style, row: &[u64]) {
     fields(
+        out,
         style,
         row,
         uncancelled(style, row, 3),
@@ -101,8 +106,9 @@ pub fn equirectangular(style: Style, row: &[u64]) {
     );
 }
 
-pub fn alpha(style: Style, row: &[u64]) {
+pub fn alpha(out: &mut [u8; ROOM], style: Style, row: &[u64]) {
     fields(
+        out,
         style,
         row,
         uncancelled(style, row, 7),

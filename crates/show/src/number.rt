@@ -1,4 +1,5 @@
 // The number that a caller gets: in a word or two, in a sentence, and where to look.
+use print::ROOM;
 use print::numbered;
 use print::piece;
 use print::text;
@@ -9,9 +10,10 @@ fn place(n: u32) -> u64 {
 }
 
 // Of a read or a feed.
-pub(crate) fn read(n: u32) {
-    numbered(b"# ", n as u64);
+pub(crate) fn read(out: &mut [u8; ROOM], n: u32) {
+    numbered(out, b"# ", n as u64);
     piece(
+        out,
         b"taken|unknown kind|bad size|payload too short|too many zeros|rule broken|too many regions|bad tail|no such slot, or it is closed|\
         no region table|too few rows lent|set aside",
         place(n),
@@ -19,16 +21,17 @@ pub(crate) fn read(n: u32) {
 }
 
 // Of any other call.
-pub fn called(n: u32) {
+pub fn called(out: &mut [u8; ROOM], n: u32) {
     if n == 0 {
-        text(b"0 done");
+        text(out, b"0 done");
     } else {
-        read(n);
+        read(out, n);
     }
 }
 
-pub fn sentence(n: u32) {
+pub fn sentence(out: &mut [u8; ROOM], n: u32) {
     piece(
+        out,
         b"Taken: the payload is a message within the rules.|\
         Refused: the kind is none of the nine that are read.|\
         Refused: the stated size exceeds 8192 or the bytes that are there.|\
@@ -64,8 +67,9 @@ fn hint_place(n: u32, kind: u64) -> u64 {
 }
 
 // Where to look when a payload of the kind is not taken.
-pub(crate) fn hint(n: u32, kind: u64) {
+pub(crate) fn hint(out: &mut [u8; ROOM], n: u32, kind: u64) {
     piece(
+        out,
         b"|\
         the kind number (payloadType): 4, 5, 45, 47, 150, 154, 155, 165 or 177.|\
         whether the size counts a header too, or the capture lost bytes.|\

@@ -5,16 +5,17 @@ use crate::field::fields;
 use crate::names::uncancelled;
 use crate::style::Style;
 use crate::style::depth;
+use print::ROOM;
 use print::text;
 use regions::MOST;
 ghost use Prim.Native.Nat.{_≤_};
 
 // A region's fields, on a line of their own.
-fn region(style: Style, row: &[u64], from: usize, i: u64)
+fn region(out: &mut [u8; ROOM], style: Style, row: &[u64], from: usize, i: u64)
     requires { ⌜ from ≤ 65536 ⌝ }
 {
     if let Style::Line = style {
-        text(b"\n   ");
+        text(out, b"\n   ");
     }
     let place = Place {
         from,
@@ -22,6 +23,7 @@ fn region(style: Style, row: &[u64], from: usize, i: u64)
         depth: depth(style, at(row, from + 1) == 1, false),
     };
     fields(
+        out,
         style,
         row,
         place,
@@ -47,19 +49,20 @@ fn region(style: Style, row: &[u64], from: usize, i: u64)
     );
 }
 
-fn regions(style: Style, row: &[u64], count: u64) {
+fn regions(out: &mut [u8; ROOM], style: Style, row: &[u64], count: u64) {
     let mut i: u64 = 0;
     while i < count {
         if MOST as u64 <= i {
             return;
         }
-        region(style, row, 9 + 19 * (i as usize), i);
+        region(out, style, row, 9 + 19 * (i as usize), i);
         i += 1;
     }
 }
 
-pub fn region_wise(style: Style, row: &[u64]) {
+pub fn region_wise(out: &mut [u8; ROOM], style: Style, row: &[u64]) {
     fields(
+        out,
         style,
         row,
         uncancelled(style, row, 1),
@@ -72,5 +75,5 @@ pub fn region_wise(style: Style, row: &[u64]) {
         1 rwp_packed_picture_width|@k\n\
         1 rwp_packed_picture_height|@k",
     );
-    regions(style, row, at(row, 4));
+    regions(out, style, row, at(row, 4));
 }

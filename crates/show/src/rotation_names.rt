@@ -5,6 +5,7 @@ use crate::fraction::decimal;
 use crate::names::uncancelled;
 use crate::style::Style;
 use crate::style::apart;
+use print::ROOM;
 use print::bits;
 use print::numbered;
 use print::piece;
@@ -12,9 +13,9 @@ use print::text;
 ghost use Prim.Native.Nat.{_≤_};
 
 // The sign of a number of 32 bits in two's complement.
-fn minus(coded: u64) {
+fn minus(out: &mut [u8; ROOM], coded: u64) {
     if 2147483648 <= coded {
-        text(b"-");
+        text(out, b"-");
     }
 }
 
@@ -28,26 +29,27 @@ fn magnitude(coded: u64) -> u64 {
 }
 
 // The angle at a place of the row: the coded number, the degrees that it makes, and, three places on in the row, the 64 bits of their float.
-fn angle(style: Style, row: &[u64], i: usize)
+fn angle(out: &mut [u8; ROOM], style: Style, row: &[u64], i: usize)
     requires { ⌜ i ≤ 256 ⌝ }
 {
     let coded = at(row, i);
     let n = magnitude(coded);
-    apart(style);
-    piece(b"|||yaw|pitch|roll", i as u64);
-    text(b"_rotation=");
-    minus(coded);
-    numbered(b"# (", n);
-    minus(coded);
-    decimal(n, 65536);
-    text(b" degrees, ");
-    bits(at(row, i + 3));
-    text(b")");
+    apart(out, style);
+    piece(out, b"|||yaw|pitch|roll", i as u64);
+    text(out, b"_rotation=");
+    minus(out, coded);
+    numbered(out, b"# (", n);
+    minus(out, coded);
+    decimal(out, n, 65536);
+    text(out, b" degrees, ");
+    bits(out, at(row, i + 3));
+    text(out, b")");
 }
 
-pub fn rotation(style: Style, row: &[u64]) {
+pub fn rotation(out: &mut [u8; ROOM], style: Style, row: &[u64]) {
     let place = uncancelled(style, row, 1);
     fields(
+        out,
         style,
         row,
         place,
@@ -55,8 +57,8 @@ pub fn rotation(style: Style, row: &[u64]) {
         1 sphere_rotation_persistence_flag|@p",
     );
     if b'1' <= place.depth {
-        angle(style, row, 3);
-        angle(style, row, 4);
-        angle(style, row, 5);
+        angle(out, style, row, 3);
+        angle(out, style, row, 4);
+        angle(out, style, row, 5);
     }
 }

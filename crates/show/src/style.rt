@@ -1,4 +1,5 @@
 // How fields are shown.
+use print::ROOM;
 use print::text;
 
 pub enum Style {
@@ -9,10 +10,10 @@ pub enum Style {
 }
 
 // What goes before a field.
-pub(crate) fn apart(style: Style) {
+pub(crate) fn apart(out: &mut [u8; ROOM], style: Style) {
     match style {
-        Style::Line => text(b" "),
-        Style::Explained => text(b"\n  "),
+        Style::Line => text(out, b" "),
+        Style::Explained => text(out, b"\n  "),
     }
 }
 

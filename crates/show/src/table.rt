@@ -2,17 +2,19 @@
 use crate::field::Place;
 use crate::field::fields;
 use crate::style::Style;
+use print::ROOM;
 use print::numbered;
 
 // A row on a line of its own.
-fn line(rows: &[u64], i: u32) {
-    numbered(b"\n  row #:", i as u64);
+fn line(out: &mut [u8; ROOM], rows: &[u64], i: u32) {
+    numbered(out, b"\n  row #:", i as u64);
     let place = Place {
         from: 9 * (i as usize),
         index: 0,
         depth: b'0',
     };
     fields(
+        out,
         Style::Line,
         rows,
         place,
@@ -22,10 +24,10 @@ fn line(rows: &[u64], i: u32) {
 }
 
 // As many rows as count says.
-pub fn table(rows: &[u64], count: u32) {
+pub fn table(out: &mut [u8; ROOM], rows: &[u64], count: u32) {
     let mut i: u32 = 0;
     while i < count {
-        line(rows, i);
+        line(out, rows, i);
         i += 1;
     }
 }

@@ -4,31 +4,33 @@ use crate::field::fields;
 use crate::names::carried;
 use crate::style::Style;
 use crate::style::apart;
+use print::ROOM;
 use print::bytes;
 use print::printable;
 use print::text;
 
 // In hex and, where it is explained, as text.
-fn rest(style: Style, name: &[u8], part: &[u8]) {
-    apart(style);
-    text(name);
-    bytes(part);
+fn rest(out: &mut [u8; ROOM], style: Style, name: &[u8], part: &[u8]) {
+    apart(out, style);
+    text(out, name);
+    bytes(out, part);
     if let Style::Explained = style {
-        text(b": as text '");
-        printable(part);
-        text(b"'");
+        text(out, b": as text '");
+        printable(out, part);
+        text(out, b"'");
     }
 }
 
-pub fn registered(style: Style, row: &[u64], part: &[u8]) {
+pub fn registered(out: &mut [u8; ROOM], style: Style, row: &[u64], part: &[u8]) {
     fields(
+        out,
         style,
         row,
         carried(style, at(row, 1) == 255, true),
         b"0 itu_t_t35_country_code\n\
         1 itu_t_t35_country_code_extension_byte",
     );
-    rest(style, b"itu_t_t35_payload_byte=", part);
+    rest(out, style, b"itu_t_t35_payload_byte=", part);
 }
 
 // The identifier is sixteen numbers of the row, from 1 on.
@@ -42,10 +44,10 @@ fn identifier(row: &[u64]) -> [u8; 16] {
     r
 }
 
-pub fn unregistered(style: Style, row: &[u64], part: &[u8]) {
-    apart(style);
-    text(b"uuid_iso_iec_11578=");
+pub fn unregistered(out: &mut [u8; ROOM], style: Style, row: &[u64], part: &[u8]) {
+    apart(out, style);
+    text(out, b"uuid_iso_iec_11578=");
     let uuid = identifier(row);
-    bytes(&uuid);
-    rest(style, b"user_data_payload_byte=", part);
+    bytes(out, &uuid);
+    rest(out, style, b"user_data_payload_byte=", part);
 }

@@ -1,8 +1,8 @@
 -- What a text spells from a place on, into lent bytes of which some are written already: one step of the reading is one step of the definition.
 -- Assumes nothing.
 use Prim.Native.Nat.{ℕ, suc, _+_, _<_, _≤_}
-use mathlib.Core.Path.{_≡_, refl, ap, _∙_}
-use mathlib.Core.Bool.{cond}
+use mathlib.Core.Path.{_≡_, refl, sym, ap, _∙_}
+use mathlib.Core.Bool.{Bool, true, false, cond}
 use mathlib.Core.List.{List, [], _∷_}
 use native.Mathlib.Nat.{add-zero, zero-add}
 use native.Mathlib.Numerals.{add-one}
@@ -16,7 +16,7 @@ use Rattle.words.specs.declared.hex.Hex.the-variants.{Bytes, Long}
 use Rattle.words.specs.declared.hex.Paired.{Paired}
 use Rattle.words.specs.declared.hex.Paired.the-variants.{Byte, Wrong}
 use Rattle.lent.specs.Lent.{Left, left}
-use Rattle.words.specs.Hex.{loneOf, pairOf, Spelling, ends, onward, spelling, into}
+use Rattle.words.specs.Hex.{loneOf, pairOf, marked, Spelling, ends, onward, spelling, into}
 
 -- behind n bytes that are written already
 intoAt : ℕ → List ℕ → Spelling → Left Hex
@@ -30,7 +30,7 @@ pub started : (s lent : List ℕ) → still s 0 0 lent ≡ into lent (spelling 0
 unfolding still intoAt into
 started s lent = rw zero-add
 
--- ---- the definition at a space, at a last character, and at two
+-- ---- the definition at a space, at a last character, at a mark, and at a byte
 
 spaced : (i n a : ℕ) (rest : List ℕ) → a ≡ 32 → spelling i n (a ∷ rest) ≡ spelling (i + 1) n rest
 unfolding spelling
@@ -41,10 +41,15 @@ lone : (i n a : ℕ) → (a ≡ 32 → ⊥) → spelling i n (a ∷ []) ≡ ends
 unfolding spelling
 lone i n a m = rw (ne-eqb a 32 m)
 
-paired : (i n a b : ℕ) (rest : List ℕ) (p : Paired) → (a ≡ 32 → ⊥) → p ≡ pairOf i a b →
-    spelling i n (a ∷ b ∷ rest) ≡ onward p (spelling (i + 2) (n + 1) rest)
-unfolding spelling
-paired i n a b rest p m e = rw (ne-eqb a 32 m, e)
+module _ (i n a b : ℕ) (rest : List ℕ) (m : a ≡ 32 → ⊥) where
+  passed : marked (a ∷ b ∷ rest) ≡ true → spelling i n (a ∷ b ∷ rest) ≡ spelling (i + 2) n rest
+  unfolding spelling
+  passed x = rw (ne-eqb a 32 m, x)
+
+  paired : (p : Paired) → marked (a ∷ b ∷ rest) ≡ false → p ≡ pairOf i a b →
+      spelling i n (a ∷ b ∷ rest) ≡ onward p (spelling (i + 2) (n + 1) rest)
+  unfolding spelling
+  paired p x e = rw (ne-eqb a 32 m, x, e)
 
 -- ---- where it ends
 
@@ -70,7 +75,7 @@ stored n b lent t =
 
 -- ---- at a place
 
-cons-at : (s : List ℕ) (i : ℕ) → i < length s → drop i s ≡ getD s i 0 ∷ drop (i + 1) s
+pub cons-at : (s : List ℕ) (i : ℕ) → i < length s → drop i s ≡ getD s i 0 ∷ drop (i + 1) s
 cons-at s i h = rw add-one (drop-cons s i 0 h)
 
 module _ (s : List ℕ) (i n : ℕ) (lent : List ℕ) where
@@ -91,21 +96,28 @@ module _ (s : List ℕ) (i n : ℕ) (lent : List ℕ) where
           ap (intoAt n lent) (ap (spelling i n) one ∙ lone i n _ m) ∙ ended n lent (loneOf i (getD s i 0)) k
 
       module _ (j : i + 1 < length s) where
-        at-pair : (p : Paired) → p ≡ pairOf i (getD s i 0) (getD s (i + 1) 0) →
-            still s i n lent ≡ intoAt n lent (onward p (spelling (i + 2) (n + 1) (drop (i + 2) s)))
-        unfolding still
-        at-pair p e =
+        two : drop i s ≡ getD s i 0 ∷ getD s (i + 1) 0 ∷ drop (i + 2) s
+        two =
             let next : i + 1 + 1 ≡ i + 2 = omega arith in
-            let two = cons-at s i h ∙ ap (λ (t : List ℕ). getD s i 0 ∷ t) (rw next at (cons-at s (i + 1) j)) in
-            ap (intoAt n lent) (ap (spelling i n) two ∙ paired i n _ _ _ p m e)
+            cons-at s i h ∙ ap (λ (t : List ℕ). getD s i 0 ∷ t) (rw next at (cons-at s (i + 1) j))
 
-        pub at-wrong : (e : Hex) → Wrong e ≡ pairOf i (getD s i 0) (getD s (i + 1) 0) → n ≤ length lent → still s i n lent ≡ left e lent
-        unfolding onward
-        at-wrong e p k = at-pair (Wrong e) p ∙ ended n lent e k
-
-        pub at-full : (b : ℕ) → Byte b ≡ pairOf i (getD s i 0) (getD s (i + 1) 0) → length lent ≤ n → still s i n lent ≡ left Long lent
-        at-full b p k = at-pair (Byte b) p ∙ full n b lent _ k
-
-        pub at-byte : (b : ℕ) → Byte b ≡ pairOf i (getD s i 0) (getD s (i + 1) 0) → still s i n lent ≡ still s (i + 2) (n + 1) (set lent n b)
+        pub at-mark : marked (drop i s) ≡ true → still s i n lent ≡ still s (i + 2) n lent
         unfolding still
-        at-byte b p = at-pair (Byte b) p ∙ stored n b lent _
+        at-mark x = ap (intoAt n lent) (ap (spelling i n) two ∙ passed i n _ _ _ m (ap marked (sym two) ∙ x))
+
+        module _ (x : marked (drop i s) ≡ false) where
+          at-pair : (p : Paired) → p ≡ pairOf i (getD s i 0) (getD s (i + 1) 0) →
+              still s i n lent ≡ intoAt n lent (onward p (spelling (i + 2) (n + 1) (drop (i + 2) s)))
+          unfolding still
+          at-pair p e = ap (intoAt n lent) (ap (spelling i n) two ∙ paired i n _ _ _ m p (ap marked (sym two) ∙ x) e)
+
+          pub at-wrong : (e : Hex) → Wrong e ≡ pairOf i (getD s i 0) (getD s (i + 1) 0) → n ≤ length lent → still s i n lent ≡ left e lent
+          unfolding onward
+          at-wrong e p k = at-pair (Wrong e) p ∙ ended n lent e k
+
+          pub at-full : (b : ℕ) → Byte b ≡ pairOf i (getD s i 0) (getD s (i + 1) 0) → length lent ≤ n → still s i n lent ≡ left Long lent
+          at-full b p k = at-pair (Byte b) p ∙ full n b lent _ k
+
+          pub at-byte : (b : ℕ) → Byte b ≡ pairOf i (getD s i 0) (getD s (i + 1) 0) → still s i n lent ≡ still s (i + 2) (n + 1) (set lent n b)
+          unfolding still
+          at-byte b p = at-pair (Byte b) p ∙ stored n b lent _

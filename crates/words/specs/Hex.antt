@@ -1,6 +1,6 @@
 -- Bytes in hex: what the characters of a text spell, up to the first thing that is wrong.
 use Prim.Native.Nat.{ℕ, _+_, _-_, _*_}
-use mathlib.Core.Bool.{cond}
+use mathlib.Core.Bool.{Bool, true, false, not, cond}
 use mathlib.Core.List.{List, [], _∷_}
 use lib.Dec.{eqb, ltb, leb}
 use lib.ListN.{length}
@@ -34,6 +34,21 @@ pairOf i a b =
     (cond (eqb (digitOf b) 16) (Wrong (Foreign (i + 1)))
     (Byte (digitOf a * 16 + digitOf b))))
 
+-- '0' is 48, 'x' 120 and 'X' 88
+abbrev pub zeroX : ℕ → ℕ → Bool
+zeroX a b = cond (eqb a 48) (cond (eqb b 120) true (eqb b 88)) false
+
+-- something else than a space is next
+abbrev pub unspaced : List ℕ → Bool
+unspaced [] = false
+unspaced (c ∷ rest) = not (eqb c 32)
+
+-- a text starts with `0x` or `0X`, and something else than a space follows
+unfoldable pub marked : List ℕ → Bool
+marked [] = false
+marked (a ∷ []) = false
+marked (a ∷ b ∷ rest) = cond (zeroX a b) (unspaced rest) false
+
 -- the bytes that a text spells, and how it ends
 pub record Spelling : Type 0 where
   pub bytes : List ℕ
@@ -47,11 +62,14 @@ unfoldable pub onward : Paired → Spelling → Spelling
 onward (Byte b) t = record { bytes = b ∷ t .bytes; ending = t .ending }
 onward (Wrong e) t = ends e
 
--- the characters from place i on, of a text that spelled n bytes before it
+-- the characters from place i on, of a text that spelled n bytes before it; spaces and marks are passed over
 unfoldable pub spelling : ℕ → ℕ → List ℕ → Spelling
 spelling i n [] = ends (Bytes n)
 spelling i n (a ∷ []) = ends (cond (eqb a 32) (Bytes n) (loneOf i a))
-spelling i n (a ∷ b ∷ rest) = cond (eqb a 32) (spelling (i + 1) n (b ∷ rest)) (onward (pairOf i a b) (spelling (i + 2) (n + 1) rest))
+spelling i n (a ∷ b ∷ rest) =
+    cond (eqb a 32) (spelling (i + 1) n (b ∷ rest))
+    (cond (marked (a ∷ b ∷ rest)) (spelling (i + 2) n rest)
+    (onward (pairOf i a b) (spelling (i + 2) (n + 1) rest)))
 
 -- the bytes over the front of what is lent, as many as there is room for
 unfoldable pub into : List ℕ → Spelling → Left Hex

@@ -1,8 +1,9 @@
 // Bytes in hex.
 ghost use mathlib.Core.Path.{_≡_};
 ghost use Prim.Native.Nat.{_<_};
+ghost use lib.ListN.{length, drop};
 ghost use Rattle.lent.specs.Lent.{left};
-ghost use Rattle.words.specs.Hex.{digitOf, loneOf, pairOf, spelling, into};
+ghost use Rattle.words.specs.Hex.{digitOf, loneOf, pairOf, zeroX, marked, spelling, into};
 
 // What a character spells: a digit's value, or 16 where it is none.
 fn digit(b: u8) -> u8
@@ -62,7 +63,35 @@ fn pair(i: usize, a: u8, b: u8) -> Paired
     Paired::Byte(high * 16 + low)
 }
 
-// The bytes that a text spells; there may be spaces between them.
+// Whether a and b are `0x` or `0X`.
+fn zero_x(a: u8, b: u8) -> bool
+    ensures { λ r. ⌜ r ≡ zeroX a b ⌝ }
+{
+    if a != b'0' {
+        return false;
+    }
+    match b {
+        b'x' => true,
+        b'X' => true,
+        _ => false,
+    }
+}
+
+// Whether `0x` or `0X` stands at i, and something else than a space after it.
+fn is_marked(s: &[u8], i: usize) -> bool
+    requires { ⌜ i < length (now s) ⌝ }
+    ensures { λ r. ⌜ r ≡ marked (drop i (now (s .entry))) ⌝ }
+{
+    if s.len() - i < 3 {
+        return false;
+    }
+    if zero_x(s[i], s[i + 1]) {
+        return s[i + 2] != b' ';
+    }
+    false
+}
+
+// The bytes that a text spells; there may be spaces between them, and `0x` before each.
 pub fn bytes(s: &[u8], out: &mut [u8]) -> Hex
     ensures { λ r. ⌜ left r (now (out .exit)) ≡ into (now (out .entry)) (spelling 0 0 (now (s .entry))) ⌝ }
 {
@@ -76,15 +105,19 @@ pub fn bytes(s: &[u8], out: &mut [u8]) -> Hex
             if s.len() <= next {
                 return lone(i, s[i]);
             }
-            match pair(i, s[i], s[next]) {
-                Paired::Wrong(e) => return e,
-                Paired::Byte(b) => {
-                    if out.len() <= n {
-                        return Hex::Long;
+            if is_marked(s, i) {
+                i += 2;
+            } else {
+                match pair(i, s[i], s[next]) {
+                    Paired::Wrong(e) => return e,
+                    Paired::Byte(b) => {
+                        if out.len() <= n {
+                            return Hex::Long;
+                        }
+                        out[n] = b;
+                        n += 1;
+                        i += 2;
                     }
-                    out[n] = b;
-                    n += 1;
-                    i += 2;
                 }
             }
         }

@@ -7,10 +7,10 @@ use Rattle.print.proofs.piece.Statement.{statement}
 use Rattle.print.proofs.piece.Tie as tie
 
 abbrev Inv-loop : tie.InvT-loop
-Inv-loop s n at₀ left₀ end₀ at left end = (at ≤ end) × (end ≤ length s)
+Inv-loop out₀ s n at₀ left₀ end₀ out at left end = (at ≤ end) × (end ≤ length s)
 
 abbrev μ-loop : tie.MeasureT-loop
-μ-loop s n at₀ left₀ end₀ at left end = length s - end
+μ-loop out₀ s n at₀ left₀ end₀ out at left end = length s - end
 
 pub piece-spec : {M : Type 1} → statement M
 piece-spec =

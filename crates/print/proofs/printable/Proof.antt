@@ -7,10 +7,10 @@ use Rattle.print.proofs.printable.Statement.{statement}
 use Rattle.print.proofs.printable.Tie as tie
 
 abbrev Inv-loop : tie.InvT-loop
-Inv-loop s i₀ i = i ≤ length s
+Inv-loop out₀ s i₀ out i = i ≤ length s
 
 abbrev μ-loop : tie.MeasureT-loop
-μ-loop s i₀ i = length s - i
+μ-loop out₀ s i₀ out i = length s - i
 
 pub printable-spec : {M : Type 1} → statement M
 printable-spec =

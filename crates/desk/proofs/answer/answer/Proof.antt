@@ -38,26 +38,26 @@ slotsOf r = r .slots
 
 returns : tie.Need-returns
 unfolding slotsAfter slotsOf
-returns c = rw (c .before .before .before .call .given .1) (c .done .ensures ∙ ap slotsOf (c .before .open .ensures))
+returns c = rw (c .before .before .before .before .call .given .1) (c .done .ensures ∙ ap slotsOf (c .before .open .ensures))
 
 returns-2 : tie.Need-returns-2
 unfolding slotsAfter slotsOf
-returns-2 c = rw (c .before .before .before .call2 .given .1) (c .done2 .ensures ∙ ap slotsOf (c .before .close .ensures))
+returns-2 c = rw (c .before .before .before .before .call2 .given .1) (c .done2 .ensures ∙ ap slotsOf (c .before .close .ensures))
 
 returns-3 : tie.Need-returns-3
 unfolding slotsAfter slotsOf
-returns-3 c = rw (c .before .before .before .call3 .given .1) (c .done3 .ensures ∙ ap slotsOf (c .before .sequence .ensures))
+returns-3 c = rw (c .before .before .before .before .call3 .given .1) (c .done3 .ensures ∙ ap slotsOf (c .before .sequence .ensures))
 
 returns-4 : tie.Need-returns-4
 unfolding slotsAfter
-returns-4 c = rw (c .before .before .before .call4 .given .1) (c .pictured .ensures ∙ ap (λ (r : Pictured). r .slots) (c .before .picture .ensures))
+returns-4 c = rw (c .before .before .before .before .call4 .given .1) (c .pictured .ensures ∙ ap (λ (r : Pictured). r .slots) (c .before .picture .ensures))
 
 returns-5 : tie.Need-returns-5
 unfolding slotsAfter
-returns-5 c = rw (c .before .before .call5 .given .1) (c .feed .ensures)
+returns-5 c = rw (c .before .before .before .call5 .given .1) (c .feed .ensures)
 
 returns-6 : tie.Need-returns-6
-returns-6 c = stays _ _ _ (c .before .match .keys6)
+returns-6 c = stays _ _ _ (c .before .before .match .keys6)
 
 pub answer-spec : {M : Type 1} → statement M
 answer-spec =

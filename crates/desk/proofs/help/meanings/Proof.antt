@@ -6,10 +6,10 @@ use Rattle.desk.proofs.help.meanings.Statement.{statement}
 use Rattle.desk.proofs.help.meanings.Tie as tie
 
 abbrev Inv-loop : tie.InvT-loop
-Inv-loop n₀ n = n ≤ 11
+Inv-loop out₀ n₀ out n = n ≤ 11
 
 abbrev μ-loop : tie.MeasureT-loop
-μ-loop n₀ n = 11 - n
+μ-loop out₀ n₀ out n = 11 - n
 
 pub meanings-spec : {M : Type 1} → statement M
 meanings-spec =

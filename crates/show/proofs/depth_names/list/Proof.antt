@@ -6,10 +6,10 @@ use Rattle.show.proofs.depth_names.list.Statement.{statement}
 use Rattle.show.proofs.depth_names.list.Tie as tie
 
 abbrev Inv-loop : tie.InvT-loop
-Inv-loop style row count i₀ t6 i = i ≤ count
+Inv-loop out₀ style row count i₀ t7 out i = i ≤ count
 
 abbrev μ-loop : tie.MeasureT-loop
-μ-loop style row count i₀ t6 i = count - i
+μ-loop out₀ style row count i₀ t7 out i = count - i
 
 pub list-spec : {M : Type 1} → statement M
 list-spec =

@@ -7,10 +7,10 @@ use Rattle.show.proofs.field.fields.Statement.{statement}
 use Rattle.show.proofs.field.fields.Tie as tie
 
 abbrev Inv-loop : tie.InvT-loop
-Inv-loop style row place lines i₀ p₀ i p = p ≤ length lines
+Inv-loop out₀ style row place lines i₀ p₀ out i p = p ≤ length lines
 
 abbrev μ-loop : tie.MeasureT-loop
-μ-loop style row place lines i₀ p₀ i p = length lines - p
+μ-loop out₀ style row place lines i₀ p₀ out i p = length lines - p
 
 pub fields-spec : {M : Type 1} → statement M
 fields-spec =

@@ -7,10 +7,10 @@ use Rattle.show.proofs.fraction.digits.Statement.{statement}
 use Rattle.show.proofs.fraction.digits.Tie as tie
 
 abbrev Inv-loop : tie.InvT-loop
-Inv-loop rest parts r₀ p₀ r p = (r < p) × (p ≤ 2305843009213693952)
+Inv-loop out₀ rest parts r₀ p₀ out r p = (r < p) × (p ≤ 2305843009213693952)
 
 abbrev μ-loop : tie.MeasureT-loop
-μ-loop rest parts r₀ p₀ r p = p
+μ-loop out₀ rest parts r₀ p₀ out r p = p
 
 pub digits-spec : {M : Type 1} → statement M
 digits-spec =

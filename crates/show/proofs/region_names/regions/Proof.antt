@@ -6,10 +6,10 @@ use Rattle.show.proofs.region_names.regions.Statement.{statement}
 use Rattle.show.proofs.region_names.regions.Tie as tie
 
 abbrev Inv-loop : tie.InvT-loop
-Inv-loop style row count i₀ i = i ≤ count
+Inv-loop out₀ style row count i₀ out i = i ≤ count
 
 abbrev μ-loop : tie.MeasureT-loop
-μ-loop style row count i₀ i = count - i
+μ-loop out₀ style row count i₀ out i = count - i
 
 pub regions-spec : {M : Type 1} → statement M
 regions-spec =

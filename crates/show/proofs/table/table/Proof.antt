@@ -6,10 +6,10 @@ use Rattle.show.proofs.table.table.Statement.{statement}
 use Rattle.show.proofs.table.table.Tie as tie
 
 abbrev Inv-loop : tie.InvT-loop
-Inv-loop rows count i₀ i = i ≤ count
+Inv-loop out₀ rows count i₀ out i = i ≤ count
 
 abbrev μ-loop : tie.MeasureT-loop
-μ-loop rows count i₀ i = count - i
+μ-loop out₀ rows count i₀ out i = count - i
 
 pub table-spec : {M : Type 1} → statement M
 table-spec =

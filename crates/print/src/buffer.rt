@@ -1,0 +1,76 @@
+// Standard output by way of a lent buffer, so that a line of many pieces is one system call.
+use libc::STDOUT_FILENO;
+ghost use Prim.Native.Nat.{_≤_, _<_};
+ghost use lib.ListN.{length};
+
+// A buffer's bytes. The first two say where the next byte goes, and what waits stands from the third on: a struct of a place and an array
+// would be plainer, but no reference to a struct is covered by the prover. A buffer of zeros is empty.
+pub const ROOM: usize = 16384;
+
+const FIRST: usize = 2;
+
+fn wide(b: u8) -> usize
+    ensures { λ r. ⌜ r ≤ 255 ⌝ }
+{
+    b as usize
+}
+
+// Where the next byte goes.
+fn place(out: &[u8; ROOM]) -> usize
+    ensures { λ r. ⌜ (2 ≤ r) × (r ≤ 16384) ⌝ }
+{
+    let at = 256 * wide(out[0]) + wide(out[1]);
+    if at < FIRST {
+        return FIRST;
+    }
+    if ROOM < at {
+        return ROOM;
+    }
+    at
+}
+
+fn set_place(out: &mut [u8; ROOM], at: usize)
+    requires { ⌜ at ≤ 16384 ⌝ }
+{
+    out[0] = (at / 256) as u8;
+    out[1] = (at % 256) as u8;
+}
+
+// Writes what waits before a place.
+fn send(out: &[u8], end: usize)
+    requires { ⌜ (2 ≤ end) × (end ≤ length (now out)) ⌝ }
+{
+    let start = FIRST;
+    io::write_all(STDOUT_FILENO, &out[start..end]);
+}
+
+// Writes what waits.
+pub fn flush(out: &mut [u8; ROOM]) {
+    let end = place(out);
+    send(out, end);
+    set_place(out, FIRST);
+}
+
+// The place for one more byte: the first where the buffer is full, and its bytes are written then.
+fn room(out: &[u8; ROOM], at: usize) -> usize
+    requires { ⌜ (2 ≤ at) × (at ≤ 16384) ⌝ }
+    ensures { λ r. ⌜ (2 ≤ r) × (r < 16384) ⌝ }
+{
+    if at < ROOM {
+        return at;
+    }
+    send(out, at);
+    FIRST
+}
+
+pub fn text(out: &mut [u8; ROOM], s: &[u8]) {
+    let mut at = place(out);
+    let mut i = 0;
+    while i < s.len() {
+        let to = room(out, at);
+        out[to] = s[i];
+        at = to + 1;
+        i += 1;
+    }
+    set_place(out, at);
+}
