@@ -1,4 +1,4 @@
-// What a picture answers: the held records, each on a line of its own.
+// What a picture answers: the held records, explained.
 use crate::status::status;
 use held::Held;
 use held::HeldEquirectangular;
@@ -14,7 +14,7 @@ use slots::Slots;
 ghost use mathlib.Core.Path.{_≡_};
 
 // A kind's record, and whether one is held.
-fn line(out: &mut [u8; ROOM], kind: u64, on: u8, row: &[u64]) -> bool {
+fn one(out: &mut [u8; ROOM], kind: u64, on: u8, row: &[u64]) -> bool {
     if on == 1 {
         show::answer::held(out, kind, row);
         return true;
@@ -24,27 +24,27 @@ fn line(out: &mut [u8; ROOM], kind: u64, on: u8, row: &[u64]) -> bool {
 
 fn frame_packing(out: &mut [u8; ROOM], held: HeldFramePacking) -> bool {
     let row = fields::record::frame_packing(0, held.value);
-    line(out, 45, held.on, &row)
+    one(out, 45, held.on, &row)
 }
 
 fn orientation(out: &mut [u8; ROOM], held: HeldOrientation) -> bool {
     let row = fields::record::orientation(0, held.value);
-    line(out, 47, held.on, &row)
+    one(out, 47, held.on, &row)
 }
 
 fn equirectangular(out: &mut [u8; ROOM], held: HeldEquirectangular) -> bool {
     let row = fields::record::equirectangular(0, held.value);
-    line(out, 150, held.on, &row)
+    one(out, 150, held.on, &row)
 }
 
 fn rotation(out: &mut [u8; ROOM], held: HeldRotation) -> bool {
     let row = fields::record::rotation(0, held.value);
-    line(out, 154, held.on, &row)
+    one(out, 154, held.on, &row)
 }
 
 fn packing(out: &mut [u8; ROOM], held: HeldPacking) -> bool {
     let row = fields::record::packing(0, held.value);
-    line(out, 155, held.on, &row)
+    one(out, 155, held.on, &row)
 }
 
 fn records(out: &mut [u8; ROOM], held: Held) {

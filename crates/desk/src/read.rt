@@ -8,6 +8,7 @@ use reader::payload;
 use reader::user::user_part;
 use script::call::Payload;
 use script::line::BYTES;
+use show::answer::Asked;
 use show::style::Style;
 use slots::Slots;
 ghost use mathlib.Core.Path.{_≡_};
@@ -19,7 +20,13 @@ fn shown(out: &mut [u8; ROOM], style: Style, answer: Answer, p: Payload, bytes: 
     let mut row = [0u64; PACKING_FIELDS];
     let n = handing::write(&mut row, answer);
     let part = user_part(p.kind, p.size, bytes);
-    show::answer::answer(out, style, n, p.kind, p.size, &row, part);
+    let asked = Asked {
+        kind: p.kind,
+        size: p.size,
+        number: n,
+    };
+    let payload = front(bytes, p.size as usize);
+    show::answer::answer(out, style, asked, &row, payload, part);
     status(n);
 }
 

@@ -25,7 +25,7 @@ fn lent(n: u64) -> usize
 fn shown(out: &mut [u8; ROOM], r: Tabled, rows: &[u64; NUMBERS]) {
     match r {
         Tabled::Rows(count) => {
-            numbered(out, b"0 done, rows: #", count as u64);
+            numbered(out, b"0 done rows=#", count as u64);
             show::table::table(out, rows, count);
         }
         Tabled::Refused(why) => {

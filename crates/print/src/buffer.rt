@@ -1,6 +1,6 @@
 // Standard output by way of a lent buffer, so that a line of many pieces is one system call.
 use libc::STDOUT_FILENO;
-ghost use Prim.Native.Nat.{_≤_, _<_};
+ghost use Prim.Native.Nat.{_+_, _≤_};
 ghost use lib.ListN.{length};
 
 // A buffer's bytes. The first two say where the next byte goes, and what waits stands from the third on: a struct of a place and an array
@@ -51,26 +51,26 @@ pub fn flush(out: &mut [u8; ROOM]) {
     set_place(out, FIRST);
 }
 
-// The place for one more byte: the first where the buffer is full, and its bytes are written then.
-fn room(out: &[u8; ROOM], at: usize) -> usize
-    requires { ⌜ (2 ≤ at) × (at ≤ 16384) ⌝ }
-    ensures { λ r. ⌜ (2 ≤ r) × (r < 16384) ⌝ }
+fn copy(out: &mut [u8; ROOM], at: usize, s: &[u8])
+    requires { ⌜ at + length (now s) ≤ 16384 ⌝ }
 {
-    if at < ROOM {
-        return at;
-    }
-    send(out, at);
-    FIRST
-}
-
-pub fn text(out: &mut [u8; ROOM], s: &[u8]) {
-    let mut at = place(out);
     let mut i = 0;
     while i < s.len() {
-        let to = room(out, at);
-        out[to] = s[i];
-        at = to + 1;
+        out[at + i] = s[i];
         i += 1;
     }
-    set_place(out, at);
+}
+
+// Where a text does not fit what is free, what waits goes first; one that no buffer has room for is written at once.
+pub fn text(out: &mut [u8; ROOM], s: &[u8]) {
+    if ROOM - place(out) < s.len() {
+        flush(out);
+    }
+    let at = place(out);
+    if ROOM - at < s.len() {
+        io::write_all(STDOUT_FILENO, s);
+        return;
+    }
+    copy(out, at, s);
+    set_place(out, at + s.len());
 }

@@ -20,6 +20,20 @@ pub fn number(out: &mut [u8; ROOM], n: u64) {
     text(out, &digits[..k]);
 }
 
+// How many digits a number is padded to.
+const WIDTH: usize = 15;
+
+// A number with zeros in front.
+pub fn padded(out: &mut [u8; ROOM], n: u64) {
+    let zeros = [b'0'; WIDTH];
+    let mut digits = [0u8; 20];
+    let k = io::decimal(n, &mut digits);
+    if k < WIDTH {
+        text(out, &zeros[k..]);
+    }
+    text(out, &digits[..k]);
+}
+
 // A text, with a number at its '#' if it has one.
 pub fn numbered(out: &mut [u8; ROOM], s: &[u8], n: u64) {
     let start = 0;

@@ -5,6 +5,7 @@ use crate::field::at;
 use crate::field::field;
 use crate::field::fields;
 use crate::fraction::decimal;
+use crate::fraction::multiple;
 use crate::fraction::power;
 use crate::names::carried;
 use crate::style::Style;
@@ -13,81 +14,83 @@ use crate::style::depth;
 use print::ROOM;
 use print::bits;
 use print::number;
-use print::numbered;
 use print::piece;
 use print::text;
-ghost use Prim.Native.Nat.{_≤_};
-
-// m × 2^k, which may be too long to be written out.
-fn multiple(out: &mut [u8; ROOM], m: u64, k: u64) {
-    if 30 < k {
-        numbered(out, b"# x 2^", m);
-        number(out, k);
-    } else {
-        number(out, m << k);
-    }
-}
-
-// m / 2^k, likewise.
-fn part(out: &mut [u8; ROOM], m: u64, k: u64) {
-    if 61 < k {
-        numbered(out, b"# x 2^-", m);
-        number(out, k);
-    } else {
-        decimal(out, m, power(k));
-    }
-}
+ghost use Prim.Native.Nat.{_≤_, _<_};
 
 // m × 2^(e - 31 - v).
 fn product(out: &mut [u8; ROOM], m: u64, e: u64, v: u64)
-    requires { ⌜ v ≤ 32 ⌝ }
+    requires { ⌜ (m ≤ 8589934592) × (0 < e) × (v ≤ 32) ⌝ }
 {
     let whole = 31 + v;
     if whole <= e {
         multiple(out, m, e - whole);
     } else {
-        part(out, m, whole - e);
+        decimal(out, m, power(whole - e));
     }
 }
 
 // The number that an exponent e and a mantissa n of v bits stand for.
 fn magnitude(out: &mut [u8; ROOM], e: u64, v: u64, n: u64)
-    requires { ⌜ v ≤ 32 ⌝ }
+    requires { ⌜ (v ≤ 32) × (n < 4294967296) ⌝ }
 {
     if e == 0 {
         product(out, n, 1, v);
     } else {
-        product(out, power(v) + n % 4294967296, e, v);
+        product(out, power(v) + n, e, v);
     }
 }
 
-// The number in decimal, and its bits; only a negative one has the highest bit set.
+// The number in decimal; only a negative one has the highest of its 64 bits set.
 fn specified(out: &mut [u8; ROOM], row: &[u64], from: usize)
     requires { ⌜ from ≤ 256 ⌝ }
 {
-    let pattern = at(row, from + 5);
-    if 9223372036854775808 <= pattern {
+    if 9223372036854775808 <= at(row, from + 5) {
         text(out, b"-");
     }
     magnitude(
         out,
         at(row, from + 1),
         at(row, from + 2) % 32 + 1,
-        at(row, from + 3),
+        at(row, from + 3) % 4294967296,
     );
-    text(out, b" ");
-    bits(out, pattern);
 }
 
-// The number, if it is one.
-fn value(out: &mut [u8; ROOM], row: &[u64], from: usize)
+// The name of one of the four, or of what codes it, by its end.
+fn name(out: &mut [u8; ROOM], flag: usize, end: &[u8]) {
+    piece(out, b"|ZNear|ZFar|DMin|DMax", flag as u64);
+    text(out, end);
+}
+
+// The number, if it is one, and its bits.
+fn value(out: &mut [u8; ROOM], row: &[u64], flag: usize, from: usize)
     requires { ⌜ from ≤ 256 ⌝ }
 {
     if at(row, from + 4) == 1 {
         text(out, b"unspecified");
     } else {
         specified(out, row, from);
+        text(out, b" ");
+        name(out, flag, b"_bits=");
+        bits(out, at(row, from + 5));
     }
+}
+
+// What codes it, by a name of Table 18.
+fn variable(out: &mut [u8; ROOM], flag: usize, end: &[u8], n: u64) {
+    text(out, b" ");
+    name(out, flag, end);
+    number(out, n);
+}
+
+fn variables(out: &mut [u8; ROOM], row: &[u64], flag: usize, from: usize)
+    requires { ⌜ from ≤ 256 ⌝ }
+{
+    let length = at(row, from + 2) % 32 + 1;
+    variable(out, flag, b"Sign=", at(row, from));
+    variable(out, flag, b"Exp=", at(row, from + 1));
+    variable(out, flag, b"Mantissa=", at(row, from + 3));
+    variable(out, flag, b"ManLen=", length);
 }
 
 // What a number measures, where it is explained: the first two of the four are depths.
@@ -96,27 +99,10 @@ fn measured(out: &mut [u8; ROOM], style: Style, flag: usize) {
         return;
     };
     if flag < 3 {
-        text(out, b": distance from the camera, its unit not specified;");
+        text(out, b": distance from the camera, its unit not specified");
     } else {
-        text(out, b": shift between two views, in luma sample widths;");
+        text(out, b": shift between two views, in luma sample widths");
     }
-}
-
-// The parts that code a number.
-fn parts(out: &mut [u8; ROOM], row: &[u64], from: usize) {
-    text(out, b" from");
-    let place = Place {
-        from,
-        index: 0,
-        depth: b'0',
-    };
-    fields(
-        out,
-        Style::Line,
-        row,
-        place,
-        b"0 da_sign_flag\n0 da_exponent\n0 da_mantissa_len_minus1\n0 da_mantissa",
-    );
 }
 
 // A number that is coded.
@@ -124,9 +110,9 @@ fn coded(out: &mut [u8; ROOM], style: Style, row: &[u64], flag: usize)
     requires { ⌜ flag ≤ 4 ⌝ }
 {
     let from = 6 * flag + 1;
-    value(out, row, from);
+    value(out, row, flag, from);
+    variables(out, row, flag, from);
     measured(out, style, flag);
-    parts(out, row, from);
 }
 
 // One of the four numbers, which its flag in the row says is there.
@@ -136,7 +122,7 @@ fn element(out: &mut [u8; ROOM], style: Style, row: &[u64], flag: usize)
     let there = at(row, flag) == 1;
     if b'1' <= depth(style, there, false) {
         apart(out, style);
-        piece(out, b"|ZNear=|ZFar=|DMin=|DMax=", flag as u64);
+        name(out, flag, b"=");
         if there {
             coded(out, style, row, flag);
         } else {
@@ -145,26 +131,30 @@ fn element(out: &mut [u8; ROOM], style: Style, row: &[u64], flag: usize)
     }
 }
 
-// The list of type 3, which H.274 counts from 1.
+// The list of type 3, which stands in the row from here on, and which H.274 counts from 1.
+const LIST: usize = 32;
+
 fn list(out: &mut [u8; ROOM], style: Style, row: &[u64], count: u64) {
-    let mut i: u64 = 0;
-    while i < count {
-        if 63 <= i {
+    let mut i: usize = LIST;
+    let mut index: u64 = 1;
+    while index <= count {
+        if row.len() <= i {
             return;
         }
         let place = Place {
-            from: 32 + i as usize,
-            index: i + 1,
+            from: i,
+            index,
             depth: b'0',
         };
-        fields(
+        field(
             out,
             style,
-            row,
             place,
+            row[i],
             b"0 depth_nonlinear_representation_model[#]|deviation from the straight line at this node",
         );
         i += 1;
+        index += 1;
     }
 }
 
@@ -173,7 +163,7 @@ fn viewed(d_min_flag: u64, d_max_flag: u64) -> bool {
     d_min_flag == 1 || d_max_flag == 1
 }
 
-pub fn depth_information(out: &mut [u8; ROOM], style: Style, row: &[u64]) {
+pub(crate) fn depth_information(out: &mut [u8; ROOM], style: Style, row: &[u64]) {
     fields(
         out,
         style,

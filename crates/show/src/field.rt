@@ -8,7 +8,7 @@ use print::text;
 use words::place::find;
 
 // Where fields stand in a row, and which of them are shown.
-pub struct Place {
+pub(crate) struct Place {
     pub from: usize,
     // The index in their names, for a '#'.
     pub index: u64,
@@ -17,7 +17,7 @@ pub struct Place {
 }
 
 // The number at a place of a row; 0 past its end.
-pub fn at(row: &[u64], i: usize) -> u64 {
+pub(crate) fn at(row: &[u64], i: usize) -> u64 {
     if i < row.len() { row[i] } else { 0 }
 }
 
@@ -30,24 +30,8 @@ fn common(out: &mut [u8; ROOM], letter: u8, n: u64) {
             b"this picture only|until the next message or sequence",
             n,
         ),
-        b'g' => piece(
-            out,
-            b"content unknown, or coded as 4 to 7|enough content to interpolate between samples|\
-            picture content, its quality changing towards the neighbour's|picture content of like quality",
-            n,
-        ),
         b'j' => text(out, b"relative projected picture sample units"),
-        b'k' => text(out, b"relative packed picture sample units"),
-        _ => piece(
-            out,
-            b"no transform|mirrored horizontally|rotated by 180 degrees anticlockwise|\
-            rotated by 180 degrees anticlockwise, then mirrored horizontally|\
-            rotated by 90 degrees anticlockwise, then mirrored horizontally|\
-            rotated by 90 degrees anticlockwise|\
-            rotated by 270 degrees anticlockwise, then mirrored horizontally|\
-            rotated by 270 degrees anticlockwise",
-            n,
-        ),
+        _ => text(out, b"relative packed picture sample units"),
     }
 }
 
@@ -69,7 +53,7 @@ fn meaning(out: &mut [u8; ROOM], s: &[u8], n: u64) {
 }
 
 // A field by its line: how deep it lies, a space, the name, and after a bar what its values mean.
-pub fn field(out: &mut [u8; ROOM], style: Style, place: Place, n: u64, line: &[u8]) {
+pub(crate) fn field(out: &mut [u8; ROOM], style: Style, place: Place, n: u64, line: &[u8]) {
     let start = 2;
     let bar = find(line, 0, b'|');
     if bar < start {
@@ -86,7 +70,7 @@ pub fn field(out: &mut [u8; ROOM], style: Style, place: Place, n: u64, line: &[u
 }
 
 // The numbers of a row from a place on, one for each line.
-pub fn fields(out: &mut [u8; ROOM], style: Style, row: &[u64], place: Place, lines: &[u8]) {
+pub(crate) fn fields(out: &mut [u8; ROOM], style: Style, row: &[u64], place: Place, lines: &[u8]) {
     let mut i = place.from;
     let mut p = 0;
     while p < lines.len() {

@@ -17,7 +17,7 @@ fn place(kind: u64) -> u64 {
     }
 }
 
-pub fn name(out: &mut [u8; ROOM], kind: u64) {
+pub(crate) fn name(out: &mut [u8; ROOM], kind: u64) {
     piece(
         out,
         b"user data registered by T.35|user data unregistered|frame packing arrangement|display orientation|equirectangular projection|\

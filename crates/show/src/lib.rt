@@ -2,8 +2,10 @@
 // The values are those of the row that crate fields lays out; each kind's names stand beside it here, in the row's order.
 pub mod answer;
 mod depth_names;
+mod emulation;
 mod field;
 mod fraction;
+mod guard;
 mod kind;
 mod names;
 pub mod number;

@@ -3,12 +3,18 @@ use crate::field::Place;
 use crate::field::at;
 use crate::field::field;
 use crate::field::fields;
+use crate::guard::code;
+use crate::guard::meaning;
+use crate::guard::reserved;
 use crate::style::Style;
+use crate::style::apart;
 use crate::style::depth;
 use print::ROOM;
+use print::numbered;
+use print::text;
 
 // The fields after the extension's length, by the conditions under which the message carries them.
-pub fn carried(style: Style, outer: bool, inner: bool) -> Place {
+pub(crate) fn carried(style: Style, outer: bool, inner: bool) -> Place {
     Place {
         from: 1,
         index: 0,
@@ -17,7 +23,7 @@ pub fn carried(style: Style, outer: bool, inner: bool) -> Place {
 }
 
 // The same where the first of them cancels, and the one at a place of the row says whether the deeper ones are there.
-pub fn uncancelled(style: Style, row: &[u64], flag: usize) -> Place {
+pub(crate) fn uncancelled(style: Style, row: &[u64], flag: usize) -> Place {
     carried(style, at(row, 1) == 0, at(row, flag) == 1)
 }
 
@@ -72,14 +78,14 @@ fn arrangement(out: &mut [u8; ROOM], style: Style, row: &[u64], depth: u8) {
     );
 }
 
-pub fn frame_packing(out: &mut [u8; ROOM], style: Style, row: &[u64], aside: bool) {
+pub(crate) fn frame_packing(out: &mut [u8; ROOM], style: Style, row: &[u64], aside: bool) {
     let place = carried(style, at(row, 2) == 0, placed(at(row, 4), at(row, 3)));
     fields(out, style, row, place, b"0 fp_arrangement_id");
     arrangement_cancel(out, style, place, at(row, 2), aside);
     arrangement(out, style, row, place.depth);
 }
 
-pub fn orientation(out: &mut [u8; ROOM], style: Style, row: &[u64]) {
+pub(crate) fn orientation(out: &mut [u8; ROOM], style: Style, row: &[u64]) {
     fields(
         out,
         style,
@@ -87,26 +93,71 @@ pub fn orientation(out: &mut [u8; ROOM], style: Style, row: &[u64]) {
         uncancelled(style, row, 1),
         b"0 display_orientation_cancel_flag|@c\n\
         1 display_orientation_persistence_flag|@p\n\
-        1 display_orientation_transform_type|@t",
+        1 display_orientation_transform_type|no transform|mirrored horizontally|rotated by 180 degrees anticlockwise|\
+        rotated by 180 degrees anticlockwise, then mirrored horizontally|\
+        rotated by 90 degrees anticlockwise, then mirrored horizontally|\
+        rotated by 90 degrees anticlockwise|\
+        rotated by 270 degrees anticlockwise, then mirrored horizontally|\
+        rotated by 270 degrees anticlockwise",
     );
 }
 
-pub fn equirectangular(out: &mut [u8; ROOM], style: Style, row: &[u64]) {
+// A guard band type that is there has its three bits at the end of the first byte.
+fn guard_code(row: &[u64], payload: &[u8]) -> u64 {
+    let n = at(row, 4);
+    if at(row, 3) == 1 {
+        return code(n, payload, 0, 8);
+    }
+    n
+}
+
+// The type, and how it is coded where that is reserved.
+fn guard_type(out: &mut [u8; ROOM], style: Style, n: u64, code: u64) {
+    apart(out, style);
+    numbered(out, b"erp_guard_band_type=#", n);
+    match style {
+        Style::Line => {
+            if reserved(code) {
+                numbered(out, b" erp_guard_band_type_coded=#", code);
+            }
+        }
+        Style::Explained => {
+            text(out, b": ");
+            meaning(out, code);
+        }
+    }
+}
+
+pub(crate) fn equirectangular(out: &mut [u8; ROOM], style: Style, row: &[u64], payload: &[u8]) {
+    let place = uncancelled(style, row, 3);
     fields(
         out,
         style,
         row,
-        uncancelled(style, row, 3),
+        place,
         b"0 erp_cancel_flag|@c\n\
         1 erp_persistence_flag|@p\n\
-        1 erp_guard_band_flag|no guard bands|guard bands\n\
-        2 erp_guard_band_type|@g\n\
-        2 erp_left_guard_band_width|luma samples\n\
+        1 erp_guard_band_flag|no guard bands|guard bands",
+    );
+    if b'2' <= place.depth {
+        guard_type(out, style, at(row, 4), guard_code(row, payload));
+    }
+    let widths = Place {
+        from: 5,
+        index: 0,
+        depth: place.depth,
+    };
+    fields(
+        out,
+        style,
+        row,
+        widths,
+        b"2 erp_left_guard_band_width|luma samples\n\
         2 erp_right_guard_band_width|luma samples",
     );
 }
 
-pub fn alpha(out: &mut [u8; ROOM], style: Style, row: &[u64]) {
+pub(crate) fn alpha(out: &mut [u8; ROOM], style: Style, row: &[u64]) {
     fields(
         out,
         style,

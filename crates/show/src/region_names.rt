@@ -2,65 +2,192 @@
 use crate::field::Place;
 use crate::field::at;
 use crate::field::fields;
+use crate::guard::code;
+use crate::guard::meaning;
+use crate::guard::reserved;
 use crate::names::uncancelled;
 use crate::style::Style;
-use crate::style::depth;
 use print::ROOM;
+use print::number;
+use print::numbered;
+use print::piece;
 use print::text;
 use regions::MOST;
-ghost use Prim.Native.Nat.{_≤_};
+ghost use Prim.Native.Nat.{_≤_, _<_};
 
-// A region's fields, on a line of their own.
-fn region(out: &mut [u8; ROOM], style: Style, row: &[u64], from: usize, i: u64)
+// A region: its index, where its numbers begin in the row, and where its bytes begin in the payload.
+struct Region {
+    index: u64,
+    from: usize,
+    byte: usize,
+}
+
+// Width and height, and left and top, which the row has the other way round.
+fn extent(out: &mut [u8; ROOM], row: &[u64], from: usize)
     requires { ⌜ from ≤ 65536 ⌝ }
 {
-    if let Style::Line = style {
-        text(out, b"\n   ");
-    }
-    let place = Place {
-        from,
-        index: i,
-        depth: depth(style, at(row, from + 1) == 1, false),
-    };
-    fields(
+    number(out, at(row, from));
+    numbered(out, b"x#", at(row, from + 1));
+    numbered(out, b" at #", at(row, from + 3));
+    numbered(out, b",#", at(row, from + 2));
+}
+
+fn transform(out: &mut [u8; ROOM], n: u64) {
+    piece(
         out,
-        style,
-        row,
-        place,
-        b"0 rwp_transform_type[#]|@t\n\
-        0 rwp_guard_band_flag[#]|no guard bands|guard bands\n\
-        0 rwp_proj_region_width[#]|@j\n\
-        0 rwp_proj_region_height[#]|@j\n\
-        0 rwp_proj_region_top[#]|top row, in @j\n\
-        0 rwp_proj_region_left[#]|leftmost column, in @j\n\
-        0 rwp_packed_region_width[#]|@k\n\
-        0 rwp_packed_region_height[#]|@k\n\
-        0 rwp_packed_region_top[#]|top row, in @k\n\
-        0 rwp_packed_region_left[#]|leftmost column, in @k\n\
-        1 rwp_left_guard_band_width[#]|@k\n\
-        1 rwp_right_guard_band_width[#]|@k\n\
-        1 rwp_top_guard_band_height[#]|@k\n\
-        1 rwp_bottom_guard_band_height[#]|@k\n\
-        1 rwp_guard_band_not_used_for_pred_flag[#]|pictures may be predicted from them|no picture is predicted from them\n\
-        1 rwp_guard_band_type[#][0]|left edge: @g\n\
-        1 rwp_guard_band_type[#][1]|right edge: @g\n\
-        1 rwp_guard_band_type[#][2]|top edge: @g\n\
-        1 rwp_guard_band_type[#][3]|bottom edge: @g",
+        b", no transform|, mirror|, rotate 180|, rotate 180 and mirror|, rotate 90 and mirror|, rotate 90|, rotate 270 and mirror|, rotate 270",
+        n,
     );
 }
 
-fn regions(out: &mut [u8; ROOM], style: Style, row: &[u64], count: u64) {
-    let mut i: u64 = 0;
-    while i < count {
-        if MOST as u64 <= i {
+// An edge's guard band in words.
+fn band(out: &mut [u8; ROOM], edge: usize, width: u64, n: u64, code: u64) {
+    piece(
+        out,
+        b"\n    guard bands: left |, right |, top |, bottom ",
+        edge as u64,
+    );
+    numbered(out, b"# (type ", width);
+    numbered(out, b"#: ", n);
+    meaning(out, code);
+    text(out, b")");
+}
+
+fn type_name(out: &mut [u8; ROOM], index: u64, edge: usize) {
+    numbered(out, b" rwp_guard_band_type[#]", index);
+    numbered(out, b"[#]", edge as u64);
+}
+
+// An edge's type as a field, and how it is coded where that is reserved.
+fn edge_type(out: &mut [u8; ROOM], index: u64, edge: usize, n: u64, code: u64) {
+    type_name(out, index, edge);
+    numbered(out, b"=#", n);
+    if reserved(code) {
+        type_name(out, index, edge);
+        numbered(out, b"_coded=#", code);
+    }
+}
+
+// How an edge's type n is coded, where the region has guard bands.
+fn edge_code(row: &[u64], region: Region, payload: &[u8], edge: usize, n: u64) -> u64
+    requires { ⌜ (region .from ≤ 1024) × (region .byte ≤ 1024) × (edge < 4) ⌝ }
+{
+    let from = region.from;
+    if at(row, from + 1) == 1 {
+        return code(n, payload, region.byte + 29, 12 - 3 * (edge as u64));
+    }
+    n
+}
+
+// The guard band at an edge: 0 is left, 1 right, 2 top, 3 bottom.
+fn guard(
+    out: &mut [u8; ROOM],
+    style: Style,
+    row: &[u64],
+    region: Region,
+    payload: &[u8],
+    edge: usize,
+)
+    requires { ⌜ (region .from ≤ 1024) × (region .byte ≤ 1024) × (edge < 4) ⌝ }
+{
+    let from = region.from;
+    let n = at(row, from + 15 + edge);
+    let coded = edge_code(row, region, payload, edge, n);
+    match style {
+        Style::Line => edge_type(out, region.index, edge, n, coded),
+        Style::Explained => band(out, edge, at(row, from + 10 + edge), n, coded),
+    }
+}
+
+fn guards(out: &mut [u8; ROOM], style: Style, row: &[u64], region: Region, payload: &[u8])
+    requires { ⌜ (region .from ≤ 1024) × (region .byte ≤ 1024) ⌝ }
+{
+    guard(out, style, row, region, payload, 0);
+    guard(out, style, row, region, payload, 1);
+    guard(out, style, row, region, payload, 2);
+    guard(out, style, row, region, payload, 3);
+}
+
+// A region's fields, on a line of their own.
+fn listed(out: &mut [u8; ROOM], row: &[u64], region: Region) {
+    text(out, b"\n   ");
+    let place = Place {
+        from: region.from,
+        index: region.index,
+        depth: b'0',
+    };
+    fields(
+        out,
+        Style::Line,
+        row,
+        place,
+        b"0 rwp_transform_type[#]\n0 rwp_guard_band_flag[#]\n\
+        0 rwp_proj_region_width[#]\n0 rwp_proj_region_height[#]\n0 rwp_proj_region_top[#]\n0 rwp_proj_region_left[#]\n\
+        0 rwp_packed_region_width[#]\n0 rwp_packed_region_height[#]\n0 rwp_packed_region_top[#]\n0 rwp_packed_region_left[#]\n\
+        0 rwp_left_guard_band_width[#]\n0 rwp_right_guard_band_width[#]\n\
+        0 rwp_top_guard_band_height[#]\n0 rwp_bottom_guard_band_height[#]\n\
+        0 rwp_guard_band_not_used_for_pred_flag[#]",
+    );
+}
+
+// A region as an engineer would write it.
+fn written(out: &mut [u8; ROOM], row: &[u64], region: Region)
+    requires { ⌜ region .from ≤ 1024 ⌝ }
+{
+    let from = region.from;
+    numbered(out, b"\n  region #: packed ", region.index);
+    extent(out, row, from + 6);
+    text(out, b" -> projected ");
+    extent(out, row, from + 2);
+    transform(out, at(row, from));
+}
+
+fn shown(out: &mut [u8; ROOM], style: Style, row: &[u64], region: Region, payload: &[u8])
+    requires { ⌜ (region .from ≤ 1024) × (region .byte ≤ 1024) ⌝ }
+{
+    let from = region.from;
+    match style {
+        Style::Line => {
+            listed(out, row, region);
+            guards(out, style, row, region, payload);
+        }
+        Style::Explained => {
+            written(out, row, region);
+            if at(row, from + 1) == 1 {
+                guards(out, style, row, region, payload);
+                piece(
+                    out,
+                    b"; pictures may be predicted from them|; no picture is predicted from them",
+                    at(row, from + 14),
+                );
+            }
+        }
+    }
+}
+
+// How many bytes a region has, by its guard band flag.
+fn size(flag: u64) -> usize
+    ensures { λ r. ⌜ r ≤ 31 ⌝ }
+{
+    if flag == 1 { 31 } else { 25 }
+}
+
+fn regions(out: &mut [u8; ROOM], style: Style, row: &[u64], payload: &[u8], count: u64) {
+    let mut i: usize = 0;
+    let mut byte = 14;
+    while i < MOST {
+        if count <= i as u64 {
             return;
         }
-        region(out, style, row, 9 + 19 * (i as usize), i);
+        let from = 9 + 19 * i;
+        let index = i as u64;
+        shown(out, style, row, Region { index, from, byte }, payload);
+        byte += size(at(row, from + 1));
         i += 1;
     }
 }
 
-pub fn region_wise(out: &mut [u8; ROOM], style: Style, row: &[u64]) {
+pub(crate) fn region_wise(out: &mut [u8; ROOM], style: Style, row: &[u64], payload: &[u8]) {
     fields(
         out,
         style,
@@ -69,11 +196,11 @@ pub fn region_wise(out: &mut [u8; ROOM], style: Style, row: &[u64]) {
         b"0 rwp_cancel_flag|@c\n\
         1 rwp_persistence_flag|@p\n\
         1 rwp_constituent_picture_matching_flag|the regions hold for the whole picture|the regions hold for each of the two frames of kind 45\n\
-        1 rwp_num_packed_regions|regions that follow\n\
+        1 rwp_num_packed_regions|each below as width x height at left,top; rotations are anticlockwise, mirroring is horizontal and comes after\n\
         1 rwp_proj_picture_width|@j\n\
         1 rwp_proj_picture_height|@j\n\
         1 rwp_packed_picture_width|@k\n\
         1 rwp_packed_picture_height|@k",
     );
-    regions(out, style, row, at(row, 4));
+    regions(out, style, row, payload, at(row, 4));
 }

@@ -7,7 +7,7 @@ use crate::style::Style;
 use crate::style::apart;
 use print::ROOM;
 use print::bits;
-use print::numbered;
+use print::number;
 use print::piece;
 use print::text;
 ghost use Prim.Native.Nat.{_≤_};
@@ -20,12 +20,20 @@ fn minus(out: &mut [u8; ROOM], coded: u64) {
 }
 
 // Its magnitude.
-fn magnitude(coded: u64) -> u64 {
+fn magnitude(coded: u64) -> u64
+    ensures { λ r. ⌜ r ≤ 4294967296 ⌝ }
+{
     if coded < 2147483648 {
         coded
     } else {
         4294967296 - coded % 4294967296
     }
+}
+
+// An angle's name, by its place in the row.
+fn name(out: &mut [u8; ROOM], i: usize, end: &[u8]) {
+    piece(out, b"|||yaw|pitch|roll", i as u64);
+    text(out, end);
 }
 
 // The angle at a place of the row: the coded number, the degrees that it makes, and, three places on in the row, the 64 bits of their float.
@@ -35,18 +43,19 @@ fn angle(out: &mut [u8; ROOM], style: Style, row: &[u64], i: usize)
     let coded = at(row, i);
     let n = magnitude(coded);
     apart(out, style);
-    piece(out, b"|||yaw|pitch|roll", i as u64);
-    text(out, b"_rotation=");
+    name(out, i, b"_rotation=");
     minus(out, coded);
-    numbered(out, b"# (", n);
+    number(out, n);
+    text(out, b" ");
+    name(out, i, b"_degrees=");
     minus(out, coded);
     decimal(out, n, 65536);
-    text(out, b" degrees, ");
+    text(out, b" ");
+    name(out, i, b"_bits=");
     bits(out, at(row, i + 3));
-    text(out, b")");
 }
 
-pub fn rotation(out: &mut [u8; ROOM], style: Style, row: &[u64]) {
+pub(crate) fn rotation(out: &mut [u8; ROOM], style: Style, row: &[u64]) {
     let place = uncancelled(style, row, 1);
     fields(
         out,

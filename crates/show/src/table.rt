@@ -7,7 +7,7 @@ use print::numbered;
 
 // A row on a line of its own.
 fn line(out: &mut [u8; ROOM], rows: &[u64], i: u32) {
-    numbered(out, b"\n  row #:", i as u64);
+    numbered(out, b"\n  row=#", i as u64);
     let place = Place {
         from: 9 * (i as usize),
         index: 0,

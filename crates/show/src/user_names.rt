@@ -21,7 +21,7 @@ fn rest(out: &mut [u8; ROOM], style: Style, name: &[u8], part: &[u8]) {
     }
 }
 
-pub fn registered(out: &mut [u8; ROOM], style: Style, row: &[u64], part: &[u8]) {
+pub(crate) fn registered(out: &mut [u8; ROOM], style: Style, row: &[u64], part: &[u8]) {
     fields(
         out,
         style,
@@ -33,18 +33,20 @@ pub fn registered(out: &mut [u8; ROOM], style: Style, row: &[u64], part: &[u8]) 
     rest(out, style, b"itu_t_t35_payload_byte=", part);
 }
 
-// The identifier is sixteen numbers of the row, from 1 on.
-fn identifier(row: &[u64]) -> [u8; 16] {
-    let mut r = [0u8; 16];
+// The identifier: a number of the row for each of its bytes, from 1 on.
+const UUID: usize = 16;
+
+fn identifier(row: &[u64]) -> [u8; UUID] {
+    let mut r = [0u8; UUID];
     let mut i = 0;
-    while i < 16 {
+    while i < UUID {
         r[i] = (at(row, i + 1) % 256) as u8;
         i += 1;
     }
     r
 }
 
-pub fn unregistered(out: &mut [u8; ROOM], style: Style, row: &[u64], part: &[u8]) {
+pub(crate) fn unregistered(out: &mut [u8; ROOM], style: Style, row: &[u64], part: &[u8]) {
     apart(out, style);
     text(out, b"uuid_iso_iec_11578=");
     let uuid = identifier(row);

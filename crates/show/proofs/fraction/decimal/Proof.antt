@@ -1,6 +1,6 @@
 -- `show::fraction::decimal` is safe: what is left is below the parts.
 -- Assumes nothing.
-use native.Mathlib.Nat.{mod-lt}
+use native.Mathlib.Nat.{mod-lt, mod-le, le-trans}
 use borrow.Author.Needs.{needs}
 use Rattle.show.proofs.fraction.decimal.Statement.{statement}
 use Rattle.show.proofs.fraction.decimal.Tie as tie
@@ -14,6 +14,6 @@ decimal-spec =
     (λ c. search needs)
     (λ c. search needs)
     (λ c κs. search needs)
-    (λ c κs. (mod-lt _ (search needs), search needs))
+    (λ c κs. (mod-lt _ (search needs), le-trans (mod-le _ _) (search needs), search needs))
     (λ c. search needs)
     (λ c. search needs))
