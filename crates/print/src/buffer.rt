@@ -61,14 +61,21 @@ fn copy(out: &mut [u8; ROOM], at: usize, s: &[u8])
     }
 }
 
-// Where a text does not fit what is free, what waits goes first; one that no buffer has room for is written at once.
-pub fn text(out: &mut [u8; ROOM], s: &[u8]) {
-    if ROOM - place(out) < s.len() {
-        flush(out);
+// A text that does not fit what is free: what waits goes first, and one that no buffer has room for is written at once.
+fn spill(out: &mut [u8; ROOM], s: &[u8]) {
+    flush(out);
+    if ROOM - FIRST < s.len() {
+        io::write_all(STDOUT_FILENO, s);
+        return;
     }
+    copy(out, FIRST, s);
+    set_place(out, FIRST + s.len());
+}
+
+pub fn text(out: &mut [u8; ROOM], s: &[u8]) {
     let at = place(out);
     if ROOM - at < s.len() {
-        io::write_all(STDOUT_FILENO, s);
+        spill(out, s);
         return;
     }
     copy(out, at, s);

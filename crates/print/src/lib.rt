@@ -42,7 +42,9 @@ pub fn numbered(out: &mut [u8; ROOM], s: &[u8], n: u64) {
     if hash < s.len() {
         number(out, n);
         let after = hash + 1;
-        text(out, &s[after..]);
+        if after < s.len() {
+            text(out, &s[after..]);
+        }
     }
 }
 

@@ -1,6 +1,7 @@
 // Records by their kinds, and what a reader answers: its number and, unless it is a refusal, the fields of the record.
 use crate::depth_names::depth_information;
 use crate::emulation::emulation;
+use crate::field::NONE;
 use crate::field::Place;
 use crate::field::fields;
 use crate::kind;
@@ -60,7 +61,7 @@ pub fn held(out: &mut [u8; ROOM], kind: u64, row: &[u64]) {
 fn extension(out: &mut [u8; ROOM], style: Style, row: &[u64]) {
     let place = Place {
         from: 0,
-        index: 0,
+        index: NONE,
         depth: b'0',
     };
     fields(
@@ -68,7 +69,8 @@ fn extension(out: &mut [u8; ROOM], style: Style, row: &[u64]) {
         style,
         row,
         place,
-        b"0 extension|no extension bits; at most the bits that close the payload follow the message|\
+        b"0 extension=",
+        b"no extension bits; at most the bits that close the payload follow the message|\
         bits between the message and those that close the payload, as newer firmware may add; they are not used",
     );
 }

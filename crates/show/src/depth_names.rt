@@ -151,7 +151,8 @@ fn list(out: &mut [u8; ROOM], style: Style, row: &[u64], count: u64) {
             style,
             place,
             row[i],
-            b"0 depth_nonlinear_representation_model[#]|deviation from the straight line at this node",
+            b"0 depth_nonlinear_representation_model[#]=",
+            b"deviation from the straight line at this node",
         );
         i += 1;
         index += 1;
@@ -169,13 +170,19 @@ pub(crate) fn depth_information(out: &mut [u8; ROOM], style: Style, row: &[u64])
         style,
         row,
         carried(style, viewed(at(row, 3), at(row, 4)), false),
-        b"0 z_near_flag|the nearest depth is not coded|the nearest depth is coded\n\
-        0 z_far_flag|the farthest depth is not coded|the farthest depth is coded\n\
-        0 d_min_flag|the minimum disparity is not coded|the minimum disparity is coded\n\
-        0 d_max_flag|the maximum disparity is not coded|the maximum disparity is coded\n\
-        0 depth_representation_type|samples are the inverse of the distance|samples are disparity|\
-        samples are the distance|samples are disparity, mapped by the list|reserved\n\
-        1 disparity_ref_view_id|the view for which disparities are derived",
+        b"0 z_near_flag=\n\
+        0 z_far_flag=\n\
+        0 d_min_flag=\n\
+        0 d_max_flag=\n\
+        0 depth_representation_type=\n\
+        1 disparity_ref_view_id=",
+        b"the nearest depth is not coded|the nearest depth is coded\n\
+        the farthest depth is not coded|the farthest depth is coded\n\
+        the minimum disparity is not coded|the minimum disparity is coded\n\
+        the maximum disparity is not coded|the maximum disparity is coded\n\
+        samples are the inverse of the distance|samples are disparity|samples are the distance|\
+        samples are disparity, mapped by the list|reserved\n\
+        the view for which disparities are derived",
     );
     element(out, style, row, 1);
     element(out, style, row, 2);
@@ -188,7 +195,8 @@ pub(crate) fn depth_information(out: &mut [u8; ROOM], style: Style, row: &[u64])
             style,
             carried(style, true, false),
             count - 1,
-            b"0 depth_nonlinear_representation_num_minus1|one less than the numbers that follow, two less than the mapping's linear segments",
+            b"0 depth_nonlinear_representation_num_minus1=",
+            b"one less than the numbers that follow, two less than the mapping's linear segments",
         );
         list(out, style, row, count);
     }

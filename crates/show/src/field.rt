@@ -1,11 +1,15 @@
-// A field: its name, its value and, where a message is explained, what the value means.
+// A field: its name, its value and, where a message is explained, what the value means. Names stand apart from what values mean, so that a
+// line, which has names alone, is quick to write.
 use crate::style::Style;
 use crate::style::apart;
 use print::ROOM;
+use print::number;
 use print::numbered;
 use print::piece;
 use print::text;
 use words::place::find;
+ghost use Prim.Native.Nat.{_≤_};
+ghost use lib.ListN.{length};
 
 // Where fields stand in a row, and which of them are shown.
 pub(crate) struct Place {
@@ -15,6 +19,9 @@ pub(crate) struct Place {
     // How deep a field may lie (`style::depth`).
     pub depth: u8,
 }
+
+// The index of names that have none.
+pub(crate) const NONE: u64 = 18446744073709551615;
 
 // The number at a place of a row; 0 past its end.
 pub(crate) fn at(row: &[u64], i: usize) -> u64 {
@@ -35,10 +42,10 @@ fn common(out: &mut [u8; ROOM], letter: u8, n: u64) {
     }
 }
 
-// What 0, 1 and so on mean, each after a bar, the last for all that are larger; or one bar, a text, '@' and the letter of a shared meaning.
+// What 0, 1 and so on mean, with a bar between them, the last for all that are larger; or a text, '@' and the letter of a shared meaning.
 fn meaning(out: &mut [u8; ROOM], s: &[u8], n: u64) {
-    let start = 1;
-    if s.len() <= start {
+    let start = 0;
+    if s.len() == start {
         return;
     }
     text(out, b": ");
@@ -48,41 +55,84 @@ fn meaning(out: &mut [u8; ROOM], s: &[u8], n: u64) {
         text(out, &s[start..shared]);
         common(out, s[letter], n);
     } else {
-        piece(out, &s[start..], n);
+        piece(out, s, n);
     }
 }
 
-// A field by its line: how deep it lies, a space, the name, and after a bar what its values mean.
-pub(crate) fn field(out: &mut [u8; ROOM], style: Style, place: Place, n: u64, line: &[u8]) {
+fn named(out: &mut [u8; ROOM], name: &[u8], index: u64) {
+    if index == NONE {
+        text(out, name);
+    } else {
+        numbered(out, name, index);
+    }
+}
+
+// A field by its name, before which stands how deep it lies and a space, and by what its values mean.
+pub(crate) fn field(
+    out: &mut [u8; ROOM],
+    style: Style,
+    place: Place,
+    n: u64,
+    name: &[u8],
+    means: &[u8],
+) {
     let start = 2;
-    let bar = find(line, 0, b'|');
-    if bar < start {
+    if name.len() < start {
         return;
     }
-    if line[0] <= place.depth {
+    if name[0] <= place.depth {
         apart(out, style);
-        numbered(out, &line[start..bar], place.index);
-        numbered(out, b"=#", n);
+        named(out, &name[start..], place.index);
+        number(out, n);
         if let Style::Explained = style {
-            meaning(out, &line[bar..], n);
+            meaning(out, means, n);
         }
     }
 }
 
-// The numbers of a row from a place on, one for each line.
-pub(crate) fn fields(out: &mut [u8; ROOM], style: Style, row: &[u64], place: Place, lines: &[u8]) {
+// Where the line after the one that ends there starts.
+fn after(s: &[u8], end: usize) -> usize
+    requires { ⌜ end ≤ length (now s) ⌝ }
+    ensures { λ r. ⌜ (end ≤ r) × (r ≤ length (now (s .entry))) ⌝ }
+{
+    if end < s.len() { end + 1 } else { end }
+}
+
+// The end of the line that starts there, where it is wanted: in a line nobody asks what values mean, and there is no need to look for it.
+fn wanted(style: Style, s: &[u8], start: usize) -> usize
+    requires { ⌜ start ≤ length (now s) ⌝ }
+    ensures { λ r. ⌜ (start ≤ r) × (r ≤ length (now (s .entry))) ⌝ }
+{
+    match style {
+        Style::Line => start,
+        Style::Explained => find(s, start, b'\n'),
+    }
+}
+
+// The numbers of a row from a place on: a line of names for each, and a line of what its values mean.
+pub(crate) fn fields(
+    out: &mut [u8; ROOM],
+    style: Style,
+    row: &[u64],
+    place: Place,
+    names: &[u8],
+    means: &[u8],
+) {
     let mut i = place.from;
     let mut p = 0;
-    while p < lines.len() {
-        let end = find(lines, p, b'\n');
+    let mut q = 0;
+    while p < names.len() {
         if row.len() <= i {
             return;
         }
-        field(out, style, place, row[i], &lines[p..end]);
-        if end == lines.len() {
+        let name = find(names, p, b'\n');
+        let mean = wanted(style, means, q);
+        field(out, style, place, row[i], &names[p..name], &means[q..mean]);
+        if name == names.len() {
             return;
         }
-        p = end + 1;
+        p = name + 1;
+        q = after(means, mean);
         i += 1;
     }
 }

@@ -1,4 +1,5 @@
 // The names of kinds 45, 47, 150 and 165, and what their values mean. A line begins with how deep its field lies (`style::depth`).
+use crate::field::NONE;
 use crate::field::Place;
 use crate::field::at;
 use crate::field::field;
@@ -17,7 +18,7 @@ use print::text;
 pub(crate) fn carried(style: Style, outer: bool, inner: bool) -> Place {
     Place {
         from: 1,
-        index: 0,
+        index: NONE,
         depth: depth(style, outer, inner),
     }
 }
@@ -40,10 +41,18 @@ fn arrangement_cancel(out: &mut [u8; ROOM], style: Style, place: Place, n: u64, 
             style,
             place,
             n,
-            b"0 fp_arrangement_cancel_flag|fields follow|ends nothing, since the message is set aside",
+            b"0 fp_arrangement_cancel_flag=",
+            b"fields follow|ends nothing, since the message is set aside",
         );
     } else {
-        field(out, style, place, n, b"0 fp_arrangement_cancel_flag|@c");
+        field(
+            out,
+            style,
+            place,
+            n,
+            b"0 fp_arrangement_cancel_flag=",
+            b"@c",
+        );
     }
 }
 
@@ -51,7 +60,7 @@ fn arrangement_cancel(out: &mut [u8; ROOM], style: Style, place: Place, n: u64, 
 fn arrangement(out: &mut [u8; ROOM], style: Style, row: &[u64], depth: u8) {
     let place = Place {
         from: 3,
-        index: 0,
+        index: NONE,
         depth,
     };
     fields(
@@ -59,28 +68,43 @@ fn arrangement(out: &mut [u8; ROOM], style: Style, row: &[u64], depth: u8) {
         style,
         row,
         place,
-        b"1 fp_arrangement_type|reserved|reserved|reserved|side by side|top and bottom|the two frames alternate in time|reserved\n\
-        1 fp_quincunx_sampling_flag|not quincunx sampled|quincunx sampled\n\
-        1 fp_content_interpretation_type|which view is which is not said|frame 0 is the left view|frame 0 is the right view|reserved\n\
-        1 fp_spatial_flipping_flag|no frame is flipped|\
+        b"1 fp_arrangement_type=\n\
+        1 fp_quincunx_sampling_flag=\n\
+        1 fp_content_interpretation_type=\n\
+        1 fp_spatial_flipping_flag=\n\
+        1 fp_frame0_flipped_flag=\n\
+        1 fp_field_views_flag=\n\
+        1 fp_current_frame_is_frame0_flag=\n\
+        1 fp_frame0_self_contained_flag=\n\
+        1 fp_frame1_self_contained_flag=\n\
+        2 fp_frame0_grid_position_x=\n\
+        2 fp_frame0_grid_position_y=\n\
+        2 fp_frame1_grid_position_x=\n\
+        2 fp_frame1_grid_position_y=\n\
+        1 fp_arrangement_persistence_flag=\n\
+        0 fp_upsampled_aspect_ratio_flag=",
+        b"reserved|reserved|reserved|side by side|top and bottom|the two frames alternate in time|reserved\n\
+        not quincunx sampled|quincunx sampled\n\
+        which view is which is not said|frame 0 is the left view|frame 0 is the right view|reserved\n\
+        no frame is flipped|\
         if side by side, one frame is flipped sideways; if top and bottom, upside down; under other types to be ignored\n\
-        1 fp_frame0_flipped_flag|if one is flipped, it is frame 1|if one is flipped, it is frame 0\n\
-        1 fp_field_views_flag|as it must be|reserved, to be ignored\n\
-        1 fp_current_frame_is_frame0_flag|if they alternate, this picture is frame 1|if they alternate, this picture is frame 0\n\
-        1 fp_frame0_self_contained_flag|frame 0 may be predicted from frame 1|frame 0 is never predicted from frame 1\n\
-        1 fp_frame1_self_contained_flag|frame 1 may be predicted from frame 0|frame 1 is never predicted from frame 0\n\
-        2 fp_frame0_grid_position_x|sixteenths of a sample\n\
-        2 fp_frame0_grid_position_y|sixteenths of a sample; x and y both 0: the default place; both 15: unknown\n\
-        2 fp_frame1_grid_position_x|sixteenths of a sample\n\
-        2 fp_frame1_grid_position_y|sixteenths of a sample; x and y both 0: the default place; both 15: unknown\n\
-        1 fp_arrangement_persistence_flag|@p\n\
-        0 fp_upsampled_aspect_ratio_flag|the sample aspect ratio is that before upconversion|the sample aspect ratio is that after upconversion",
+        if one is flipped, it is frame 1|if one is flipped, it is frame 0\n\
+        as it must be|reserved, to be ignored\n\
+        if they alternate, this picture is frame 1|if they alternate, this picture is frame 0\n\
+        frame 0 may be predicted from frame 1|frame 0 is never predicted from frame 1\n\
+        frame 1 may be predicted from frame 0|frame 1 is never predicted from frame 0\n\
+        sixteenths of a sample\n\
+        sixteenths of a sample; x and y both 0: the default place; both 15: unknown\n\
+        sixteenths of a sample\n\
+        sixteenths of a sample; x and y both 0: the default place; both 15: unknown\n\
+        @p\n\
+        the sample aspect ratio is that before upconversion|the sample aspect ratio is that after upconversion",
     );
 }
 
 pub(crate) fn frame_packing(out: &mut [u8; ROOM], style: Style, row: &[u64], aside: bool) {
     let place = carried(style, at(row, 2) == 0, placed(at(row, 4), at(row, 3)));
-    fields(out, style, row, place, b"0 fp_arrangement_id");
+    fields(out, style, row, place, b"0 fp_arrangement_id=", b"");
     arrangement_cancel(out, style, place, at(row, 2), aside);
     arrangement(out, style, row, place.depth);
 }
@@ -91,14 +115,15 @@ pub(crate) fn orientation(out: &mut [u8; ROOM], style: Style, row: &[u64]) {
         style,
         row,
         uncancelled(style, row, 1),
-        b"0 display_orientation_cancel_flag|@c\n\
-        1 display_orientation_persistence_flag|@p\n\
-        1 display_orientation_transform_type|no transform|mirrored horizontally|rotated by 180 degrees anticlockwise|\
+        b"0 display_orientation_cancel_flag=\n\
+        1 display_orientation_persistence_flag=\n\
+        1 display_orientation_transform_type=",
+        b"@c\n\
+        @p\n\
+        no transform|mirrored horizontally|rotated by 180 degrees anticlockwise|\
         rotated by 180 degrees anticlockwise, then mirrored horizontally|\
-        rotated by 90 degrees anticlockwise, then mirrored horizontally|\
-        rotated by 90 degrees anticlockwise|\
-        rotated by 270 degrees anticlockwise, then mirrored horizontally|\
-        rotated by 270 degrees anticlockwise",
+        rotated by 90 degrees anticlockwise, then mirrored horizontally|rotated by 90 degrees anticlockwise|\
+        rotated by 270 degrees anticlockwise, then mirrored horizontally|rotated by 270 degrees anticlockwise",
     );
 }
 
@@ -135,16 +160,19 @@ pub(crate) fn equirectangular(out: &mut [u8; ROOM], style: Style, row: &[u64], p
         style,
         row,
         place,
-        b"0 erp_cancel_flag|@c\n\
-        1 erp_persistence_flag|@p\n\
-        1 erp_guard_band_flag|no guard bands|guard bands",
+        b"0 erp_cancel_flag=\n\
+        1 erp_persistence_flag=\n\
+        1 erp_guard_band_flag=",
+        b"@c\n\
+        @p\n\
+        no guard bands|guard bands",
     );
     if b'2' <= place.depth {
         guard_type(out, style, at(row, 4), guard_code(row, payload));
     }
     let widths = Place {
         from: 5,
-        index: 0,
+        index: NONE,
         depth: place.depth,
     };
     fields(
@@ -152,8 +180,10 @@ pub(crate) fn equirectangular(out: &mut [u8; ROOM], style: Style, row: &[u64], p
         style,
         row,
         widths,
-        b"2 erp_left_guard_band_width|luma samples\n\
-        2 erp_right_guard_band_width|luma samples",
+        b"2 erp_left_guard_band_width=\n\
+        2 erp_right_guard_band_width=",
+        b"luma samples\n\
+        luma samples",
     );
 }
 
@@ -163,13 +193,21 @@ pub(crate) fn alpha(out: &mut [u8; ROOM], style: Style, row: &[u64]) {
         style,
         row,
         uncancelled(style, row, 7),
-        b"0 alpha_channel_cancel_flag|fields follow|ends what was said\n\
-        1 alpha_channel_use_idc|blending multiplies the picture by alpha|the picture is multiplied already|unspecified|reserved\n\
-        1 alpha_channel_bit_depth_minus8|the bit depth of a sample, less 8\n\
-        1 alpha_transparent_value|the sample value that is transparent\n\
-        1 alpha_opaque_value|the sample value that is opaque\n\
-        1 alpha_channel_incr_flag|samples are taken as they are|samples above the lower of the two values are increased by one\n\
-        1 alpha_channel_clip_flag|samples are not clipped|samples are clipped\n\
-        2 alpha_channel_clip_type_flag|to the nearer of the two values|to the range between the two values",
+        b"0 alpha_channel_cancel_flag=\n\
+        1 alpha_channel_use_idc=\n\
+        1 alpha_channel_bit_depth_minus8=\n\
+        1 alpha_transparent_value=\n\
+        1 alpha_opaque_value=\n\
+        1 alpha_channel_incr_flag=\n\
+        1 alpha_channel_clip_flag=\n\
+        2 alpha_channel_clip_type_flag=",
+        b"fields follow|ends what was said\n\
+        blending multiplies the picture by alpha|the picture is multiplied already|unspecified|reserved\n\
+        the bit depth of a sample, less 8\n\
+        the sample value that is transparent\n\
+        the sample value that is opaque\n\
+        samples are taken as they are|samples above the lower of the two values are increased by one\n\
+        samples are not clipped|samples are clipped\n\
+        to the nearer of the two values|to the range between the two values",
     );
 }

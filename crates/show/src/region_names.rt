@@ -121,12 +121,22 @@ fn listed(out: &mut [u8; ROOM], row: &[u64], region: Region) {
         Style::Line,
         row,
         place,
-        b"0 rwp_transform_type[#]\n0 rwp_guard_band_flag[#]\n\
-        0 rwp_proj_region_width[#]\n0 rwp_proj_region_height[#]\n0 rwp_proj_region_top[#]\n0 rwp_proj_region_left[#]\n\
-        0 rwp_packed_region_width[#]\n0 rwp_packed_region_height[#]\n0 rwp_packed_region_top[#]\n0 rwp_packed_region_left[#]\n\
-        0 rwp_left_guard_band_width[#]\n0 rwp_right_guard_band_width[#]\n\
-        0 rwp_top_guard_band_height[#]\n0 rwp_bottom_guard_band_height[#]\n\
-        0 rwp_guard_band_not_used_for_pred_flag[#]",
+        b"0 rwp_transform_type[#]=\n\
+        0 rwp_guard_band_flag[#]=\n\
+        0 rwp_proj_region_width[#]=\n\
+        0 rwp_proj_region_height[#]=\n\
+        0 rwp_proj_region_top[#]=\n\
+        0 rwp_proj_region_left[#]=\n\
+        0 rwp_packed_region_width[#]=\n\
+        0 rwp_packed_region_height[#]=\n\
+        0 rwp_packed_region_top[#]=\n\
+        0 rwp_packed_region_left[#]=\n\
+        0 rwp_left_guard_band_width[#]=\n\
+        0 rwp_right_guard_band_width[#]=\n\
+        0 rwp_top_guard_band_height[#]=\n\
+        0 rwp_bottom_guard_band_height[#]=\n\
+        0 rwp_guard_band_not_used_for_pred_flag[#]=",
+        b"",
     );
 }
 
@@ -193,14 +203,22 @@ pub(crate) fn region_wise(out: &mut [u8; ROOM], style: Style, row: &[u64], paylo
         style,
         row,
         uncancelled(style, row, 1),
-        b"0 rwp_cancel_flag|@c\n\
-        1 rwp_persistence_flag|@p\n\
-        1 rwp_constituent_picture_matching_flag|the regions hold for the whole picture|the regions hold for each of the two frames of kind 45\n\
-        1 rwp_num_packed_regions|each below as width x height at left,top; rotations are anticlockwise, mirroring is horizontal and comes after\n\
-        1 rwp_proj_picture_width|@j\n\
-        1 rwp_proj_picture_height|@j\n\
-        1 rwp_packed_picture_width|@k\n\
-        1 rwp_packed_picture_height|@k",
+        b"0 rwp_cancel_flag=\n\
+        1 rwp_persistence_flag=\n\
+        1 rwp_constituent_picture_matching_flag=\n\
+        1 rwp_num_packed_regions=\n\
+        1 rwp_proj_picture_width=\n\
+        1 rwp_proj_picture_height=\n\
+        1 rwp_packed_picture_width=\n\
+        1 rwp_packed_picture_height=",
+        b"@c\n\
+        @p\n\
+        the regions hold for the whole picture|the regions hold for each of the two frames of kind 45\n\
+        each below as width x height at left,top; rotations are anticlockwise, mirroring is horizontal and comes after\n\
+        @j\n\
+        @j\n\
+        @k\n\
+        @k",
     );
     regions(out, style, row, payload, at(row, 4));
 }

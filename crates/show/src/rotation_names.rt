@@ -62,8 +62,10 @@ pub(crate) fn rotation(out: &mut [u8; ROOM], style: Style, row: &[u64]) {
         style,
         row,
         place,
-        b"0 sphere_rotation_cancel_flag|@c\n\
-        1 sphere_rotation_persistence_flag|@p",
+        b"0 sphere_rotation_cancel_flag=\n\
+        1 sphere_rotation_persistence_flag=",
+        b"@c\n\
+        @p",
     );
     if b'1' <= place.depth {
         angle(out, style, row, 3);

@@ -1,4 +1,5 @@
 // The rows of a region table, by the names of 8.15.5.2.
+use crate::field::NONE;
 use crate::field::Place;
 use crate::field::fields;
 use crate::style::Style;
@@ -10,7 +11,7 @@ fn line(out: &mut [u8; ROOM], rows: &[u64], i: u32) {
     numbered(out, b"\n  row=#", i as u64);
     let place = Place {
         from: 9 * (i as usize),
-        index: 0,
+        index: NONE,
         depth: b'0',
     };
     fields(
@@ -18,8 +19,16 @@ fn line(out: &mut [u8; ROOM], rows: &[u64], i: u32) {
         Style::Line,
         rows,
         place,
-        b"0 ProjRegionLeft\n0 ProjRegionTop\n0 ProjRegionWidth\n0 ProjRegionHeight\n\
-        0 PackedRegionLeft\n0 PackedRegionTop\n0 PackedRegionWidth\n0 PackedRegionHeight\n0 TransformType",
+        b"0 ProjRegionLeft=\n\
+        0 ProjRegionTop=\n\
+        0 ProjRegionWidth=\n\
+        0 ProjRegionHeight=\n\
+        0 PackedRegionLeft=\n\
+        0 PackedRegionTop=\n\
+        0 PackedRegionWidth=\n\
+        0 PackedRegionHeight=\n\
+        0 TransformType=",
+        b"",
     );
 }
 

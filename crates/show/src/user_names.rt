@@ -27,8 +27,9 @@ pub(crate) fn registered(out: &mut [u8; ROOM], style: Style, row: &[u64], part: 
         style,
         row,
         carried(style, at(row, 1) == 255, true),
-        b"0 itu_t_t35_country_code\n\
-        1 itu_t_t35_country_code_extension_byte",
+        b"0 itu_t_t35_country_code=\n\
+        1 itu_t_t35_country_code_extension_byte=",
+        b"",
     );
     rest(out, style, b"itu_t_t35_payload_byte=", part);
 }

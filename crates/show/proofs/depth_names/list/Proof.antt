@@ -7,10 +7,10 @@ use Rattle.show.proofs.depth_names.list.Statement.{statement}
 use Rattle.show.proofs.depth_names.list.Tie as tie
 
 abbrev Inv-loop : tie.InvT-loop
-Inv-loop out₀ style row count i₀ index₀ t8 out i index = (32 ≤ i) × (index ≤ i)
+Inv-loop out₀ style row count i₀ index₀ t8 t9 out i index = (32 ≤ i) × (index ≤ i)
 
 abbrev μ-loop : tie.MeasureT-loop
-μ-loop out₀ style row count i₀ index₀ t8 out i index = length row - i
+μ-loop out₀ style row count i₀ index₀ t8 t9 out i index = length row - i
 
 pub list-spec : {M : Type 1} → statement M
 list-spec =
@@ -18,6 +18,7 @@ list-spec =
     (tie.spec
     Inv-loop
     μ-loop
+    (λ c. search needs)
     (λ c. search needs)
     (λ c. search needs)
     (λ c. search needs)

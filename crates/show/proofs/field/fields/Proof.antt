@@ -7,10 +7,10 @@ use Rattle.show.proofs.field.fields.Statement.{statement}
 use Rattle.show.proofs.field.fields.Tie as tie
 
 abbrev Inv-loop : tie.InvT-loop
-Inv-loop out₀ style row place lines i₀ p₀ out i p = p ≤ length lines
+Inv-loop out₀ style row place names means i₀ p₀ q₀ out i p q = (p ≤ length names) × (q ≤ length means)
 
 abbrev μ-loop : tie.MeasureT-loop
-μ-loop out₀ style row place lines i₀ p₀ out i p = length lines - p
+μ-loop out₀ style row place names means i₀ p₀ q₀ out i p q = length names - p
 
 pub fields-spec : {M : Type 1} → statement M
 fields-spec =
@@ -19,6 +19,8 @@ fields-spec =
     Inv-loop
     μ-loop
     (λ c. search needs)
+    (λ c. search needs)
+    (λ c κs. search needs)
     (λ c κs. search needs)
     (λ c. search needs)
     (λ c. search needs)
@@ -26,9 +28,12 @@ fields-spec =
     (λ c. search needs)
     (λ c. search needs)
     (λ c. search needs)
+    (λ c. search needs)
+    (λ c. search needs)
     (λ c κs. search needs)
     (λ c. search needs)
     (λ c. search needs)
+    (λ c κs. search needs)
     (λ c. search needs)
     (λ c. search needs)
     (λ c. search needs)
