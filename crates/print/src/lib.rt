@@ -15,6 +15,10 @@ pub fn mark(b: u8) {
 }
 
 pub fn number(out: &mut [u8; ROOM], n: u64) {
+    if n < 10 {
+        text(out, &[b'0' + n as u8]);
+        return;
+    }
     let mut digits = [0u8; 20];
     let k = io::decimal(n, &mut digits);
     text(out, &digits[..k]);

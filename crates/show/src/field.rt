@@ -1,7 +1,7 @@
 // A field: its name, its value and, where a message is explained, what the value means. Names stand apart from what values mean, so that a
 // line, which has names alone, is quick to write.
 use crate::style::Style;
-use crate::style::apart;
+use crate::style::margin;
 use print::ROOM;
 use print::number;
 use print::numbered;
@@ -67,7 +67,8 @@ fn named(out: &mut [u8; ROOM], name: &[u8], index: u64) {
     }
 }
 
-// A field by its name, before which stands how deep it lies and a space, and by what its values mean.
+// A field by its name, before which stands how deep it lies and a space, and by what its values mean. The space goes before the name: in a line
+// it parts the fields, and explained it is the last of a line's margin.
 pub(crate) fn field(
     out: &mut [u8; ROOM],
     style: Style,
@@ -76,12 +77,12 @@ pub(crate) fn field(
     name: &[u8],
     means: &[u8],
 ) {
-    let start = 2;
+    let start = 1;
     if name.len() < start {
         return;
     }
     if name[0] <= place.depth {
-        apart(out, style);
+        margin(out, style);
         named(out, &name[start..], place.index);
         number(out, n);
         if let Style::Explained = style {

@@ -9,12 +9,18 @@ pub enum Style {
     Explained,
 }
 
+// What goes before the space that stands before a field.
+pub(crate) fn margin(out: &mut [u8; ROOM], style: Style) {
+    match style {
+        Style::Line => {}
+        Style::Explained => text(out, b"\n "),
+    }
+}
+
 // What goes before a field.
 pub(crate) fn apart(out: &mut [u8; ROOM], style: Style) {
-    match style {
-        Style::Line => text(out, b" "),
-        Style::Explained => text(out, b"\n  "),
-    }
+    margin(out, style);
+    text(out, b" ");
 }
 
 // How deep a field may lie to be shown: 0 is always carried, 1 where the outer condition holds, 2 where both do.
