@@ -3,18 +3,18 @@
 use Prim.Native.Nat.{ℕ}
 use mathlib.Core.Path.{refl}
 use mathlib.Core.List.{[], _∷_}
-use lib.ListN.{replicate}
 use lib.Ieee.{binary64, ofBits}
 use Rattle.bits.specs.Bits.{bitAt, part, from, number}
 use Rattle.bits.specs.Elements.{uFront, ueAfter}
 use Rattle.bits.specs.Out.{taken, refused}
 use Rattle.bits.specs.declared.refusal.Refusal.the-variants.{Short, Rule}
 use Rattle.format.specs.Format.{elementFront, run, runAt, times}
+use Rattle.format.specs.Syntax.{padded}
 use Rattle.format.proofs.Worked.{Worked, row, row-at}
 use Rattle.numbers.specs.Depth.{depthBits}
 use Rattle.numbers.specs.declared.depth.DepthNumber.the-variants.{Unspecified, Number}
 use Rattle.depth_parts.specs.Element.{absent, element, elementIf}
-use Rattle.depth_parts.specs.Model.{numbers, noModel, model}
+use Rattle.depth_parts.specs.Model.{most, numbers, noModel, model}
 use Rattle.depth.specs.Depth.{flags, refView, values, zeros, depthOf, depth}
 use Rattle.depth_parts.specs.declared.element.DepthValue.{DepthValue}
 use Rattle.depth_parts.proofs.Examples.{value}
@@ -69,7 +69,7 @@ every-element :
     (value 0 38 1 2 (Number (ofBits binary64 0x4068_0000_0000_0000)))
     (value 1 34 2 5 (Number (ofBits binary64 0xc02a_0000_0000_0000)))
     (value 0 36 3 6 (Number (ofBits binary64 0x4046_0000_0000_0000))))
-    (record { count = 2; numbers = 9 ∷ 2 ∷ replicate 61 0 }))
+    (record { count = 2; numbers = padded most 0 (9 ∷ 2 ∷ []) }))
     89)
     ∷ [])
 unfolding depth flags refView values elementIf element model numbers depthBits times runAt run elementFront uFront ueAfter from part number bitAt
@@ -80,7 +80,7 @@ every-element = refl
 lists :
     Worked depth
     (row (0x02 ∷ 0x23 ∷ 0x00 ∷ 0x00 ∷ 0x40 ∷ 0x00 ∷ 0x00 ∷ [])
-    (taken (depthOf (shown 0 0 0 0) 3 0 none (record { count = 2; numbers = 5 ∷ 65535 ∷ replicate 61 0 })) 50)
+    (taken (depthOf (shown 0 0 0 0) 3 0 none (record { count = 2; numbers = padded most 0 (5 ∷ 65535 ∷ []) })) 50)
     ∷ row (0x02 ∷ 0x40 ∷ 0x00 ∷ 0x20 ∷ 0x00 ∷ 0x20 ∷ []) (refused Rule)
     ∷ row-at 3 (0x00 ∷ 0x10 ∷ []) (taken (depthOf (shown 0 0 0 0) 15 0 none noModel) 16)
     ∷ row-at 3 (0x00 ∷ 0x11 ∷ []) (refused Rule)

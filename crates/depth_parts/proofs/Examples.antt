@@ -3,19 +3,19 @@
 use Prim.Native.Nat.{ℕ}
 use mathlib.Core.Path.{refl}
 use mathlib.Core.List.{[], _∷_}
-use lib.ListN.{replicate}
 use lib.Ieee.{binary64, ofBits}
 use Rattle.bits.specs.Bits.{bitAt, part, from, number}
 use Rattle.bits.specs.Elements.{uFront, ueAfter}
 use Rattle.bits.specs.Out.{taken, refused}
 use Rattle.bits.specs.declared.refusal.Refusal.the-variants.{Short}
 use Rattle.format.specs.Format.{elementFront, run, runAt, times}
+use Rattle.format.specs.Syntax.{padded}
 use Rattle.format.proofs.Worked.{Worked, row}
 use Rattle.numbers.specs.Depth.{depthBits}
 use Rattle.numbers.specs.declared.depth.DepthNumber.{DepthNumber}
 use Rattle.numbers.specs.declared.depth.DepthNumber.the-variants.{Number}
 use Rattle.depth_parts.specs.Element.{element}
-use Rattle.depth_parts.specs.Model.{numbers, noModel, model}
+use Rattle.depth_parts.specs.Model.{most, numbers, noModel, model}
 use Rattle.depth_parts.specs.declared.element.DepthValue.{DepthValue}
 
 -- sign, exponent, length of the mantissa less one, mantissa, and the number
@@ -36,7 +36,7 @@ unfolding element depthBits runAt run elementFront uFront from part number bitAt
 elements = refl
 
 -- Of type 3 a count less one, and two numbers in their order: 42 98 is 010 0001010 011.
-lists : Worked (model 3) (row (0x42 ∷ 0x98 ∷ []) (taken (record { count = 2; numbers = 9 ∷ 2 ∷ replicate 61 0 }) 13) ∷ [])
+lists : Worked (model 3) (row (0x42 ∷ 0x98 ∷ []) (taken (record { count = 2; numbers = padded most 0 (9 ∷ 2 ∷ []) }) 13) ∷ [])
 unfolding model numbers times runAt run elementFront uFront ueAfter from part number bitAt
 lists = refl
 

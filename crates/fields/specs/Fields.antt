@@ -151,7 +151,7 @@ presenceFields a =
     ∷ a .«ref_view_id»
     ∷ []
 
--- all 63 entries of the list, whatever the count
+-- every entry of the list, whatever the count
 abbrev pub depthFields : Depth → List ℕ
 depthFields a =
     presenceFields a

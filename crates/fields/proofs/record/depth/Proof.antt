@@ -3,11 +3,12 @@
 use mathlib.Core.Path.{_≡_}
 use borrow.Author.Needs.{needs}
 use lib.ListN.{length}
+use Rattle.depth_parts.specs.Model.{most}
 use Rattle.fields.proofs.Filled.{depth-filled}
 use Rattle.fields.proofs.record.depth.Statement.{statement}
 use Rattle.fields.proofs.record.depth.Tie as tie
 
-entries : (c : tie.Start) → length (c .args .a .model) ≡ 63
+entries : (c : tie.Start) → length (c .args .a .model) ≡ most
 entries c = search needs
 
 returns : tie.Need-returns
