@@ -20,12 +20,12 @@ use Rattle.reader.proofs.Local.{local}
 use Rattle.slots.specs.Slots.{Eight}
 use Rattle.slots.specs.declared.Slots.{Slots}
 use Rattle.isolation.specs.Runs.{Call, opens, Reply, said, shown, read, tabled, repliesAt, only, unextended, blind, blinds}
-use Rattle.isolation.specs.Pairs.{VariedPayload, Pairs, Isolated}
+use Rattle.isolation.specs.Pairs.{VariedPayload, Pairs}
 use Rattle.isolation.proofs.PairLaws.{varied-answer}
 use Rattle.isolation.proofs.Isolation.{isolated}
 use Rattle.handing.specs.Handing.{recordFields, fieldsOf, handed, wroteBy, wroteFields}
 use Rattle.host.specs.Part.{partAt, partOf}
-use Rattle.host.specs.Seen.{Seen, seen, allSeen, blindly, allBlindly, SeenIsolated, SameButFirst}
+use Rattle.host.specs.Seen.{seen, allSeen, blindly, allBlindly, SeenIsolated, SameButFirst}
 
 -- ---- demand 3
 

@@ -1,7 +1,7 @@
 -- Demands 1 and 2, for any kind number, size and bytes: each answer is given exactly when, number and record. All is said of the
 -- payload's bits, and nothing in terms of how they are read. The cases exclude each other, since an answer has one number.
 -- Assumes nothing.
-use Prim.Native.Nat.{ℕ, _≤_}
+use Prim.Native.Nat.{ℕ}
 use mathlib.Core.Path.{_≡_, refl, sym, ap, _∙_, subst}
 use mathlib.Core.Logic.{_≢_, _↔_, _⊎_, inl, inr}
 use mathlib.Core.Bool.{Bool, true, false}

@@ -4,7 +4,7 @@ use mathlib.Core.Path.{_≡_}
 use mathlib.Core.List.{List, [], _∷_, _++_}
 use lib.IntN.{ℤ, pos}
 use lib.Ieee.{binary64, ofBits}
-use lib.ListN.{length, replicate}
+use lib.ListN.{length}
 use Rattle.bits.specs.declared.refusal.Refusal.the-variants.{Short, Rule, Tail}
 use Rattle.numbers.specs.declared.depth.DepthNumber.the-variants.{Absent, Number}
 use Rattle.frame_packing.specs.declared.FramePacking.{FramePacking}

@@ -42,21 +42,20 @@ fn common(out: &mut [u8; ROOM], letter: u8, n: u64) {
     }
 }
 
-// What 0, 1 and so on mean, with a bar between them, the last for all that are larger; or a text, '@' and the letter of a shared meaning.
+// What 0, 1 and so on mean, with a bar between them, the last for all that are larger; or '@' and the letter of a shared meaning.
 fn meaning(out: &mut [u8; ROOM], s: &[u8], n: u64) {
-    let start = 0;
-    if s.len() == start {
+    if s.len() == 0 {
         return;
     }
     text(out, b": ");
-    let shared = find(s, start, b'@');
-    let letter = shared + 1;
+    let letter = 1;
     if letter < s.len() {
-        text(out, &s[start..shared]);
-        common(out, s[letter], n);
-    } else {
-        piece(out, s, n);
+        if s[0] == b'@' {
+            common(out, s[letter], n);
+            return;
+        }
     }
+    piece(out, s, n);
 }
 
 fn named(out: &mut [u8; ROOM], name: &[u8], index: u64) {

@@ -1,6 +1,6 @@
 -- `words::hex::zero_x` meets its contract.
 -- Assumes nothing.
-use borrow.Author.Tests.{eq-eqb, ne-eqb}
+use borrow.Author.Tests.{ne-eqb}
 use Rattle.words.proofs.hex.zero_x.Statement.{statement}
 use Rattle.words.proofs.hex.zero_x.Tie as tie
 
