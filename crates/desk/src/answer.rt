@@ -1,10 +1,11 @@
 // What a call answers, and the slots after it.
 use crate::help::help;
 use crate::picture::pictured;
-use crate::read::feed;
 use crate::read::read;
+use crate::read::shown;
 use crate::status::status;
 use crate::table::table;
+use lent::front;
 use print::ROOM;
 use print::text;
 use script::call::Call;
@@ -15,6 +16,18 @@ use slots::Called;
 use slots::Slots;
 ghost use mathlib.Core.Path.{_≡_};
 ghost use Rattle.desk.specs.Slots.{slotsAfter};
+
+// A call that looks at no slot, for which no slot need be copied; and whether it is one.
+pub fn asked(out: &mut [u8; ROOM], call: Call, bytes: &[u8; BYTES]) -> bool {
+    match call {
+        Call::Read(p) => read(out, Style::Line, p, bytes),
+        Call::Explain(p) => read(out, Style::Explained, p, bytes),
+        Call::Help => help(out),
+        Call::Nothing => {}
+        _ => return false,
+    }
+    true
+}
 
 // A call that answers a number only.
 fn done(out: &mut [u8; ROOM], r: Called) -> Slots
@@ -28,17 +41,7 @@ fn done(out: &mut [u8; ROOM], r: Called) -> Slots
     r.slots
 }
 
-// The calls that change no slot.
-fn asked(out: &mut [u8; ROOM], slots: Slots, call: Call, bytes: &[u8; BYTES]) {
-    match call {
-        Call::Table(slot, n) => table(out, slots, slot, n),
-        Call::Read(p) => read(out, Style::Line, p, bytes),
-        Call::Explain(p) => read(out, Style::Explained, p, bytes),
-        Call::Help => help(out),
-        _ => {}
-    }
-}
-
+// Any other call.
 pub fn answer(out: &mut [u8; ROOM], slots: Slots, call: Call, bytes: &[u8; BYTES]) -> Slots
     ensures { λ r. ⌜ r ≡ slotsAfter call slots (now (bytes .entry)) ⌝ }
 {
@@ -46,11 +49,21 @@ pub fn answer(out: &mut [u8; ROOM], slots: Slots, call: Call, bytes: &[u8; BYTES
         Call::Open(n) => done(out, slots.open(n)),
         Call::Close(n) => done(out, slots.close(n)),
         Call::Sequence(n) => done(out, slots.sequence(n)),
-        Call::Picture(n) => pictured(out, slots.picture(n)),
-        Call::Feed(n, p) => feed(out, slots, n, p, bytes),
-        _ => {
-            asked(out, slots, call, bytes);
+        Call::Picture(n) => {
+            let r = slots.picture(n);
+            let answer = r.answer;
+            pictured(out, answer, r.held);
+            r.slots
+        }
+        Call::Table(n, numbers) => {
+            table(out, slots, n, numbers);
             slots
         }
+        Call::Feed(n, p) => {
+            let fed = feeding::feed(slots, n, p.kind, p.size, front(bytes, p.count));
+            shown(out, Style::Line, fed.answer, p, front(bytes, p.count));
+            fed.slots
+        }
+        _ => slots,
     }
 }

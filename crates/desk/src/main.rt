@@ -8,6 +8,7 @@ mod status;
 mod table;
 
 use answer::answer;
+use answer::asked;
 use echo::echo;
 use print::ROOM;
 use print::flush;
@@ -29,9 +30,11 @@ fn main() {
     while 0 < turns {
         input = input.next(&mut chunk, &mut line);
         if input.whole {
-            let asked = call(input, &line, &mut bytes);
-            echo(&mut out, asked, input, &line);
-            slots = answer(&mut out, slots, asked, &bytes);
+            let call = call(input, &line, &mut bytes);
+            echo(&mut out, call, input, &line);
+            if !asked(&mut out, call, &bytes) {
+                slots = answer(&mut out, slots, call, &bytes);
+            }
             flush(&mut out);
         }
         if input.over {

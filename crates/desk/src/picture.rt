@@ -9,9 +9,7 @@ use held::HeldRotation;
 use print::ROOM;
 use print::text;
 use show::number::called;
-use slots::Pictured;
-use slots::Slots;
-ghost use mathlib.Core.Path.{_≡_};
+use slots::Answer;
 
 // A kind's record, and whether one is held.
 fn one(out: &mut [u8; ROOM], kind: u64, on: u8, row: &[u64]) -> bool {
@@ -59,16 +57,12 @@ fn records(out: &mut [u8; ROOM], held: Held) {
 }
 
 // The number and, unless the call is refused, what is held.
-pub fn pictured(out: &mut [u8; ROOM], r: Pictured) -> Slots
-    ensures { λ s. ⌜ s ≡ r .slots ⌝ }
-{
-    let answer = r.answer;
+pub fn pictured(out: &mut [u8; ROOM], answer: Answer, held: Held) {
     let n = answer.number();
     called(out, n);
     status(n);
     if n == 0 {
-        records(out, r.held);
+        records(out, held);
     }
     text(out, b"\n");
-    r.slots
 }

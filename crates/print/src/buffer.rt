@@ -81,3 +81,13 @@ pub fn text(out: &mut [u8; ROOM], s: &[u8]) {
     copy(out, at, s);
     set_place(out, at + s.len());
 }
+
+pub fn byte(out: &mut [u8; ROOM], b: u8) {
+    let at = place(out);
+    if ROOM <= at {
+        spill(out, &[b]);
+        return;
+    }
+    out[at] = b;
+    set_place(out, at + 1);
+}

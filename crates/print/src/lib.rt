@@ -2,9 +2,11 @@
 mod buffer;
 
 pub use buffer::ROOM;
+pub use buffer::byte;
 pub use buffer::flush;
 pub use buffer::text;
 use words::place::find;
+ghost use Prim.Native.Nat.{_≤_};
 
 // The descriptor on which a program's runner learns of wrong lines and refusals: a program has no exit status of its own.
 const MARKS: i32 = 3;
@@ -14,28 +16,33 @@ pub fn mark(b: u8) {
     io::write_all(MARKS, &[b]);
 }
 
-pub fn number(out: &mut [u8; ROOM], n: u64) {
-    if n < 10 {
-        text(out, &[b'0' + n as u8]);
-        return;
-    }
-    let mut digits = [0u8; 20];
-    let k = io::decimal(n, &mut digits);
-    text(out, &digits[..k]);
-}
-
 // How many digits a number is padded to.
 const WIDTH: usize = 15;
 
-// A number with zeros in front.
-pub fn padded(out: &mut [u8; ROOM], n: u64) {
+// A number, with zeros in front where it has fewer digits than are asked for.
+fn digits(out: &mut [u8; ROOM], n: u64, least: usize)
+    requires { ⌜ least ≤ 15 ⌝ }
+{
     let zeros = [b'0'; WIDTH];
     let mut digits = [0u8; 20];
     let k = io::decimal(n, &mut digits);
-    if k < WIDTH {
-        text(out, &zeros[k..]);
+    if k < least {
+        text(out, &zeros[k..least]);
     }
     text(out, &digits[..k]);
+}
+
+pub fn number(out: &mut [u8; ROOM], n: u64) {
+    if n < 10 {
+        byte(out, b'0' + n as u8);
+        return;
+    }
+    digits(out, n, 1);
+}
+
+// A number with zeros in front.
+pub fn padded(out: &mut [u8; ROOM], n: u64) {
+    digits(out, n, WIDTH);
 }
 
 // A text, with a number at its '#' if it has one.
@@ -70,13 +77,13 @@ fn wide(b: u8) -> u64 {
 
 // Bytes in hex, in brackets, so that none at all can be seen.
 pub fn bytes(out: &mut [u8; ROOM], s: &[u8]) {
-    text(out, b"[");
+    byte(out, b'[');
     let mut i = 0;
     while i < s.len() {
         hex(out, wide(s[i]), 2);
         i += 1;
     }
-    text(out, b"]");
+    byte(out, b']');
 }
 
 // A byte as it is printed: a dot where it is not printable.
@@ -94,7 +101,7 @@ fn glyph(b: u8) -> u8 {
 pub fn printable(out: &mut [u8; ROOM], s: &[u8]) {
     let mut i = 0;
     while i < s.len() {
-        text(out, &[glyph(s[i])]);
+        byte(out, glyph(s[i]));
         i += 1;
     }
 }

@@ -8,7 +8,6 @@ use crate::style::apart;
 use print::ROOM;
 use print::bits;
 use print::number;
-use print::piece;
 use print::text;
 ghost use Prim.Native.Nat.{_≤_};
 
@@ -30,29 +29,27 @@ fn magnitude(coded: u64) -> u64
     }
 }
 
-// An angle's name, by its place in the row.
-fn name(out: &mut [u8; ROOM], i: usize, end: &[u8]) {
-    piece(out, b"|||yaw|pitch|roll", i as u64);
-    text(out, end);
-}
-
 // The angle at a place of the row: the coded number, the degrees that it makes, and, three places on in the row, the 64 bits of their float.
-fn angle(out: &mut [u8; ROOM], style: Style, row: &[u64], i: usize)
+fn angle(out: &mut [u8; ROOM], style: Style, row: &[u64], i: usize, name: &[u8])
     requires { ⌜ i ≤ 256 ⌝ }
 {
     let coded = at(row, i);
+    let float = at(row, i + 3);
     let n = magnitude(coded);
     apart(out, style);
-    name(out, i, b"_rotation=");
+    text(out, name);
+    text(out, b"_rotation=");
     minus(out, coded);
     number(out, n);
     text(out, b" ");
-    name(out, i, b"_degrees=");
+    text(out, name);
+    text(out, b"_degrees=");
     minus(out, coded);
     decimal(out, n, 65536);
     text(out, b" ");
-    name(out, i, b"_bits=");
-    bits(out, at(row, i + 3));
+    text(out, name);
+    text(out, b"_bits=");
+    bits(out, float);
 }
 
 pub(crate) fn rotation(out: &mut [u8; ROOM], style: Style, row: &[u64]) {
@@ -68,8 +65,8 @@ pub(crate) fn rotation(out: &mut [u8; ROOM], style: Style, row: &[u64]) {
         @p",
     );
     if b'1' <= place.depth {
-        angle(out, style, row, 3);
-        angle(out, style, row, 4);
-        angle(out, style, row, 5);
+        angle(out, style, row, 3, b"yaw");
+        angle(out, style, row, 4, b"pitch");
+        angle(out, style, row, 5, b"roll");
     }
 }

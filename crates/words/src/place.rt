@@ -5,13 +5,30 @@ ghost use lib.ListN.{length, drop};
 ghost use Rattle.bytes.specs.Bytes.{indexOf, slice};
 ghost use Rattle.words.specs.Place.{run, trimmedOf, contentOf};
 
-// Where b first stands, from a place on; the text's length where it does not.
+// Where b first stands, from a place on; the text's length where it does not. Four characters a turn, since most of a replay's time would go
+// into the turns.
 pub fn find(s: &[u8], from: usize, b: u8) -> usize
     requires { ⌜ from ≤ length (now s) ⌝ }
     ensures { λ r. ⌜ r ≡ from + indexOf b (slice from (length (now (s .entry))) (now (s .entry))) ⌝ }
     ensures { λ r. ⌜ (from ≤ r) × (r ≤ length (now (s .entry))) ⌝ }
 {
-    bytes::scan::find(s, from, s.len(), b)
+    let mut i = from;
+    while 4 <= s.len() - i {
+        if s[i] == b {
+            return i;
+        }
+        if s[i + 1] == b {
+            return i + 1;
+        }
+        if s[i + 2] == b {
+            return i + 2;
+        }
+        if s[i + 3] == b {
+            return i + 3;
+        }
+        i += 4;
+    }
+    bytes::scan::find(s, i, s.len(), b)
 }
 
 // Where something else than b first stands.

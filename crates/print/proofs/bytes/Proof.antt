@@ -7,10 +7,10 @@ use Rattle.print.proofs.bytes.Statement.{statement}
 use Rattle.print.proofs.bytes.Tie as tie
 
 abbrev Inv-loop : tie.InvT-loop
-Inv-loop out₀ s i₀ t5 out i = i ≤ length s
+Inv-loop out₀ s i₀ out i = i ≤ length s
 
 abbrev μ-loop : tie.MeasureT-loop
-μ-loop out₀ s i₀ t5 out i = length s - i
+μ-loop out₀ s i₀ out i = length s - i
 
 pub bytes-spec : {M : Type 1} → statement M
 bytes-spec =
@@ -18,13 +18,11 @@ bytes-spec =
     (tie.spec
     Inv-loop
     μ-loop
-    (λ c. search needs)
     (λ c κs. search needs)
     (λ c. search needs)
     (λ c. search needs)
     (λ c κs. search needs)
     (λ c κs. search needs)
-    (λ c. search needs)
     (λ c. search needs)
     (λ c. search needs)
     (λ c. search needs)
