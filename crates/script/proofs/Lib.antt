@@ -4,4 +4,5 @@ pub mod Listed
 pub mod Numbers
 pub mod Payloads
 pub mod Named
+pub mod Taken
 pub mod Determined

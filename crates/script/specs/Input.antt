@@ -1,9 +1,9 @@
--- How far the input is read, one byte or one chunk further. What the outside gives is how many bytes a chunk has, and which.
+-- How far the input is read, to the end of a line or one chunk further. What the outside gives is how many bytes a chunk has, and which.
 use Prim.Native.Nat.{ℕ, _+_, _%_, _^_}
 use mathlib.Core.Bool.{Bool, true, false, cond}
-use mathlib.Core.List.{List}
+use mathlib.Core.List.{List, [], _∷_}
 use lib.Dec.{eqb, ltb}
-use lib.ListN.{getD, set}
+use lib.ListN.{take, drop, set}
 use Rattle.script.specs.declared.input.Input.{Input}
 
 -- nothing is read
@@ -59,9 +59,20 @@ byteLeft i = cond (ltb (i .at) (i .end)) (ltb (i .at) 4096) false
 abbrev pub taken : Input → Input
 taken i = record { at = i .at + 1; end = i .end; line = i .line; length = i .length; whole = i .whole; over = i .over }
 
-unfoldable pub further : Input → List ℕ → List ℕ → ℕ → Step
-further i chunk line n = cond (byteLeft i) (withByte (taken i) (getD chunk (i .at) 0) line) (step (filledOf i n) line)
+-- these bytes one after the other, up to the end of the line
+unfoldable pub lineOn : Input → List ℕ → List ℕ → Step
+lineOn i [] line = step i line
+lineOn i (b ∷ bs) line =
+    let next = withByte (taken i) b line in
+    cond (next .input .whole) next (lineOn (next .input) bs (next .line))
 
--- the byte that is next, or a chunk of n bytes
+-- the bytes of the chunk that are left
+abbrev pub rest : Input → List ℕ → List ℕ
+rest i chunk = drop (i .at) (take (i .end) chunk)
+
+unfoldable pub further : Input → List ℕ → List ℕ → ℕ → Step
+further i chunk line n = cond (byteLeft i) (lineOn i (rest i chunk) line) (step (filledOf i n) line)
+
+-- the bytes that are left, up to the end of the line, or a chunk of n bytes
 unfoldable pub nextOf : Input → List ℕ → List ℕ → ℕ → Step
 nextOf i chunk line n = further (onwardOf i) chunk line n

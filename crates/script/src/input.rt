@@ -1,9 +1,10 @@
 // Standard input, line by line.
+use lent::front;
 use libc::STDIN_FILENO;
 ghost use mathlib.Core.Bool.{true, false};
 ghost use mathlib.Core.Path.{_≡_};
 ghost use Prim.Native.Nat.{_≤_};
-ghost use Rattle.script.specs.Input.{begun, plainByte, onwardOf, filledOf, withByte, byteLeft, step, nextOf};
+ghost use Rattle.script.specs.Input.{begun, plainByte, onwardOf, filledOf, withByte, byteLeft, rest, lineOn, step, nextOf};
 
 // Bytes that are read at once, and one more than a line may have.
 pub const CHUNK: usize = 4096;
@@ -93,18 +94,34 @@ impl Input {
         self
     }
 
-    // One byte further, or one chunk, of which only the outside knows how many bytes there are, and which.
+    // The bytes of the chunk that are left, up to the end of the line.
+    fn through(self, chunk: &[u8; CHUNK], line: &mut [u8; LINE]) -> Input
+        ensures { λ r. ⌜ step r (now (line .exit)) ≡ lineOn self (rest self (now (chunk .entry))) (now (line .entry)) ⌝ }
+    {
+        let s = front(chunk, self.end);
+        let mut r = self;
+        while r.at < s.len() {
+            let at = r.at;
+            r.at = at + 1;
+            r = r.with(s[at], line);
+            if r.whole {
+                return r;
+            }
+        }
+        r
+    }
+
+    // What is left of the line in the chunk; where no byte is left a chunk is read, of which only the outside knows how many bytes there are, and which.
     pub fn next(self, chunk: &mut [u8; CHUNK], line: &mut [u8; LINE]) -> Input
         ensures { λ r. ⌜ step r (now (line .exit)) ≡ nextOf self (now (chunk .entry)) (now (line .entry)) (r .end) ⌝ }
         ensures { λ r. ⌜ (byteLeft (onwardOf self) ≡ true → now (chunk .exit) ≡ now (chunk .entry)) ⌝ }
         ensures { λ r. ⌜ (byteLeft (onwardOf self) ≡ false → r .end ≤ 4096) ⌝ }
     {
-        let mut r = self.onward();
+        let r = self.onward();
         let at = r.at;
         if at < r.end {
             if at < CHUNK {
-                r.at = at + 1;
-                return r.with(chunk[at], line);
+                return r.through(chunk, line);
             }
         }
         r.filled(chunk)

@@ -1,4 +1,4 @@
--- `script::input::Input::next` meets its contract: a byte is taken where one is left, else a chunk is read.
+-- `script::input::Input::next` meets its contract: what is left of the line is taken where a byte is left, else a chunk is read.
 -- Assumes nothing.
 use Prim.Native.Nat.{ℕ, _<_, _≤_}
 use mathlib.Core.Path.{_≡_, refl, sym, ap, _∙_}
@@ -7,9 +7,8 @@ use mathlib.Core.List.{List}
 use mathlib.Core.Logic.{⊎-elim}
 use native.Mathlib.Omega.{arith}
 use borrow.Author.Tests.{lt-ltb, le-ltb}
-use lib.ListN.{getD}
 use borrow.Author.Needs.{needs}
-use Rattle.script.specs.Input.{Step, step, onwardOf, filledOf, withByte, byteLeft, taken, further, nextOf}
+use Rattle.script.specs.Input.{Step, step, onwardOf, filledOf, byteLeft, lineOn, rest, further, nextOf}
 use Rattle.script.specs.declared.input.Input.{Input}
 use Rattle.script.proofs.input.Input.next.Statement.{statement}
 use Rattle.script.proofs.input.Input.next.Tie as tie
@@ -31,7 +30,7 @@ never i j e l p =
 
 -- self, and i that it is after a whole line
 module _ (self i : Input) (e : i ≡ onwardOf self) (chunk line : List ℕ) (n : ℕ) where
-  takes : (o : Step) → byteLeft i ≡ true → o ≡ withByte (taken i) (getD chunk (i .at) 0) line → o ≡ nextOf self chunk line n
+  takes : (o : Step) → byteLeft i ≡ true → o ≡ lineOn i (rest i chunk) line → o ≡ nextOf self chunk line n
   unfolding nextOf further
   takes o l p = rw (← e, l) p
 
@@ -45,7 +44,7 @@ returns c =
     let one = two .before in
     let onward = one .before .before .onward in
     let l = left (onward .result) (one .if1 .taken) (two .if2 .taken) in
-    (takes _ _ (onward .ensures) _ _ _ _ l (c .with .ensures), ((λ p. refl), (λ p. absurd (never _ _ (onward .ensures) l p))))
+    (takes _ _ (onward .ensures) _ _ _ _ l (c .through .ensures), ((λ p. refl), (λ p. absurd (never _ _ (onward .ensures) l p))))
 
 returns-2 : tie.Need-returns-2
 returns-2 c =
@@ -61,8 +60,6 @@ next-spec =
     tie.close
     (tie.spec
     (λ c κs. search needs)
-    (λ c. search needs)
-    (λ c. search needs)
     (λ c κs. search needs)
     returns
     (λ c κs. search needs)
