@@ -1,8 +1,8 @@
 // Kind 177, depth representation information. Each of the four numbers has six of the row: sign, exponent, mantissa length less one, mantissa,
 // whether it is absent (0), unspecified (1) or a number (2), and the number's 64 bits.
+use crate::field::NONE;
 use crate::field::Place;
 use crate::field::at;
-use crate::field::field;
 use crate::field::fields;
 use crate::fraction::decimal;
 use crate::fraction::multiple;
@@ -146,12 +146,12 @@ fn list(out: &mut [u8; ROOM], style: Style, row: &[u64], count: u64) {
             index,
             depth: b'0',
         };
-        field(
+        fields(
             out,
             style,
+            row,
             place,
-            row[i],
-            b"0 depth_nonlinear_representation_model[#]=",
+            b"0 depth_nonlinear_representation_model",
             b"deviation from the straight line at this node",
         );
         i += 1;
@@ -190,11 +190,15 @@ pub(crate) fn depth_information(out: &mut [u8; ROOM], style: Style, row: &[u64])
     element(out, style, row, 4);
     let count = at(row, 31);
     if 0 < count {
-        field(
+        fields(
             out,
             style,
-            carried(style, true, false),
-            count - 1,
+            &[count - 1],
+            Place {
+                from: 0,
+                index: NONE,
+                depth: b'0',
+            },
             b"0 depth_nonlinear_representation_num_minus1=",
             b"one less than the numbers that follow, two less than the mapping's linear segments",
         );

@@ -3,8 +3,8 @@
 use crate::style::Style;
 use crate::style::margin;
 use print::ROOM;
+use print::byte;
 use print::number;
-use print::numbered;
 use print::piece;
 use print::text;
 use words::place::find;
@@ -14,7 +14,7 @@ ghost use lib.ListN.{length};
 // Where fields stand in a row, and which of them are shown.
 pub(crate) struct Place {
     pub from: usize,
-    // The index in their names, for a '#'.
+    // The index that follows their names.
     pub index: u64,
     // How deep a field may lie (`style::depth`).
     pub depth: u8,
@@ -59,23 +59,17 @@ fn meaning(out: &mut [u8; ROOM], s: &[u8], n: u64) {
 }
 
 fn named(out: &mut [u8; ROOM], name: &[u8], index: u64) {
-    if index == NONE {
-        text(out, name);
-    } else {
-        numbered(out, name, index);
+    text(out, name);
+    if index != NONE {
+        byte(out, b'[');
+        number(out, index);
+        text(out, b"]=");
     }
 }
 
 // A field by its name, before which stands how deep it lies and a space, and by what its values mean. The space goes before the name: in a line
 // it parts the fields, and explained it is the last of a line's margin.
-pub(crate) fn field(
-    out: &mut [u8; ROOM],
-    style: Style,
-    place: Place,
-    n: u64,
-    name: &[u8],
-    means: &[u8],
-) {
+fn field(out: &mut [u8; ROOM], style: Style, place: Place, n: u64, name: &[u8], means: &[u8]) {
     let start = 1;
     if name.len() < start {
         return;

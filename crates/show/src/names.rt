@@ -2,7 +2,6 @@
 use crate::field::NONE;
 use crate::field::Place;
 use crate::field::at;
-use crate::field::field;
 use crate::field::fields;
 use crate::guard::code;
 use crate::guard::meaning;
@@ -34,22 +33,27 @@ fn placed(quincunx: u64, arrangement: u64) -> bool {
 }
 
 // A message that is set aside changes no slot, a cancel neither.
-fn arrangement_cancel(out: &mut [u8; ROOM], style: Style, place: Place, n: u64, aside: bool) {
+fn arrangement_cancel(out: &mut [u8; ROOM], style: Style, row: &[u64], depth: u8, aside: bool) {
+    let place = Place {
+        from: 2,
+        index: NONE,
+        depth,
+    };
     if aside {
-        field(
+        fields(
             out,
             style,
+            row,
             place,
-            n,
             b"0 fp_arrangement_cancel_flag=",
             b"fields follow|ends nothing, since the message is set aside",
         );
     } else {
-        field(
+        fields(
             out,
             style,
+            row,
             place,
-            n,
             b"0 fp_arrangement_cancel_flag=",
             b"@c",
         );
@@ -105,7 +109,7 @@ fn arrangement(out: &mut [u8; ROOM], style: Style, row: &[u64], depth: u8) {
 pub(crate) fn frame_packing(out: &mut [u8; ROOM], style: Style, row: &[u64], aside: bool) {
     let place = carried(style, at(row, 2) == 0, placed(at(row, 4), at(row, 3)));
     fields(out, style, row, place, b"0 fp_arrangement_id=", b"");
-    arrangement_cancel(out, style, place, at(row, 2), aside);
+    arrangement_cancel(out, style, row, place.depth, aside);
     arrangement(out, style, row, place.depth);
 }
 

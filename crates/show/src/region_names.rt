@@ -54,17 +54,21 @@ fn band(out: &mut [u8; ROOM], edge: usize, width: u64, n: u64, code: u64) {
 }
 
 fn type_name(out: &mut [u8; ROOM], index: u64, edge: usize) {
-    numbered(out, b" rwp_guard_band_type[#]", index);
-    numbered(out, b"[#]", edge as u64);
+    text(out, b" rwp_guard_band_type[");
+    number(out, index);
+    text(out, b"][");
+    number(out, edge as u64);
 }
 
 // An edge's type as a field, and how it is coded where that is reserved.
 fn edge_type(out: &mut [u8; ROOM], index: u64, edge: usize, n: u64, code: u64) {
     type_name(out, index, edge);
-    numbered(out, b"=#", n);
+    text(out, b"]=");
+    number(out, n);
     if reserved(code) {
         type_name(out, index, edge);
-        numbered(out, b"_coded=#", code);
+        text(out, b"]_coded=");
+        number(out, code);
     }
 }
 
@@ -121,21 +125,21 @@ fn listed(out: &mut [u8; ROOM], row: &[u64], region: Region) {
         Style::Line,
         row,
         place,
-        b"0 rwp_transform_type[#]=\n\
-        0 rwp_guard_band_flag[#]=\n\
-        0 rwp_proj_region_width[#]=\n\
-        0 rwp_proj_region_height[#]=\n\
-        0 rwp_proj_region_top[#]=\n\
-        0 rwp_proj_region_left[#]=\n\
-        0 rwp_packed_region_width[#]=\n\
-        0 rwp_packed_region_height[#]=\n\
-        0 rwp_packed_region_top[#]=\n\
-        0 rwp_packed_region_left[#]=\n\
-        0 rwp_left_guard_band_width[#]=\n\
-        0 rwp_right_guard_band_width[#]=\n\
-        0 rwp_top_guard_band_height[#]=\n\
-        0 rwp_bottom_guard_band_height[#]=\n\
-        0 rwp_guard_band_not_used_for_pred_flag[#]=",
+        b"0 rwp_transform_type\n\
+        0 rwp_guard_band_flag\n\
+        0 rwp_proj_region_width\n\
+        0 rwp_proj_region_height\n\
+        0 rwp_proj_region_top\n\
+        0 rwp_proj_region_left\n\
+        0 rwp_packed_region_width\n\
+        0 rwp_packed_region_height\n\
+        0 rwp_packed_region_top\n\
+        0 rwp_packed_region_left\n\
+        0 rwp_left_guard_band_width\n\
+        0 rwp_right_guard_band_width\n\
+        0 rwp_top_guard_band_height\n\
+        0 rwp_bottom_guard_band_height\n\
+        0 rwp_guard_band_not_used_for_pred_flag",
         b"",
     );
 }
