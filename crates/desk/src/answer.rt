@@ -1,7 +1,5 @@
-// What a call answers, and the slots after it.
-use crate::help::help;
+// What a call on a slot answers, and the slots after it.
 use crate::picture::pictured;
-use crate::read::read;
 use crate::read::shown;
 use crate::status::status;
 use crate::table::table;
@@ -17,18 +15,6 @@ use slots::Slots;
 ghost use mathlib.Core.Path.{_≡_};
 ghost use Rattle.desk.specs.Slots.{slotsAfter};
 
-// A call that looks at no slot, for which no slot need be copied; and whether it is one.
-pub fn asked(out: &mut [u8; ROOM], call: Call, bytes: &[u8; BYTES]) -> bool {
-    match call {
-        Call::Read(p) => read(out, Style::Line, p, bytes),
-        Call::Explain(p) => read(out, Style::Explained, p, bytes),
-        Call::Help => help(out),
-        Call::Nothing => {}
-        _ => return false,
-    }
-    true
-}
-
 // A call that answers a number only.
 fn done(out: &mut [u8; ROOM], r: Called) -> Slots
     ensures { λ s. ⌜ s ≡ r .slots ⌝ }
@@ -41,7 +27,7 @@ fn done(out: &mut [u8; ROOM], r: Called) -> Slots
     r.slots
 }
 
-// Any other call.
+// The calls that look at no slot leave them all, and are not answered here.
 pub fn answer(out: &mut [u8; ROOM], slots: Slots, call: Call, bytes: &[u8; BYTES]) -> Slots
     ensures { λ r. ⌜ r ≡ slotsAfter call slots (now (bytes .entry)) ⌝ }
 {

@@ -8,15 +8,18 @@ mod status;
 mod table;
 
 use answer::answer;
-use answer::asked;
 use echo::echo;
+use help::help;
 use print::ROOM;
 use print::flush;
+use read::read;
+use script::call::Call;
 use script::input::CHUNK;
 use script::input::Input;
 use script::input::LINE;
 use script::line::BYTES;
 use script::line::call;
+use show::style::Style;
 use slots::Slots;
 
 fn main() {
@@ -32,8 +35,13 @@ fn main() {
         if input.whole {
             let call = call(input, &line, &mut bytes);
             echo(&mut out, call, input, &line);
-            if !asked(&mut out, call, &bytes) {
-                slots = answer(&mut out, slots, call, &bytes);
+            // only a call on a slot copies the slots
+            match call {
+                Call::Read(p) => read(&mut out, Style::Line, p, &bytes),
+                Call::Explain(p) => read(&mut out, Style::Explained, p, &bytes),
+                Call::Help => help(&mut out),
+                Call::Nothing => {}
+                _ => slots = answer(&mut out, slots, call, &bytes),
             }
             flush(&mut out);
         }
