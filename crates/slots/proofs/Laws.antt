@@ -41,6 +41,7 @@ use Rattle.slots.specs.declared.Slot.{Slot}
 use Rattle.slots.specs.declared.Slots.{Slots}
 use Rattle.slots.specs.declared.Answer.{Answer}
 use Rattle.slots.specs.declared.Answer.the-variants.{Done, Refused}
+use Rattle.slots.proofs.Entries.{getD-in}
 
 -- ---- one slot
 
@@ -74,6 +75,11 @@ pub slot-past : (s : Slots) (n : ℕ) → Eight s → 8 ≤ n → slotAt s n ≡
 unfolding slotAt
 slot-past s n e h = List·getD-eq-default (s .slots) closedSlot (omega arith)
 
+-- what code reads of one of the eight, which names some slot d for what stands past them
+pub slot-within : (s : Slots) (n : ℕ) (d : Slot) → Eight s → n < 8 → getD (s .slots) n d ≡ slotAt s n
+unfolding slotAt
+slot-within s n d e h = getD-in (s .slots) n d closedSlot (omega arith)
+
 slot-with : (s : Slots) (n : ℕ) (x : Slot) → Eight s → n < 8 → slotAt (withSlot s n x) n ≡ x
 unfolding slotAt withSlot
 slot-with s n x e h = getD-set-same (s .slots) n x closedSlot (omega arith)
@@ -101,7 +107,7 @@ start-closed n = replicate-all 8 n closedSlot
 
 -- ---- 8: there is no such slot, or it is closed
 
-shut-past : (s : Slots) (n : ℕ) → Eight s → 8 ≤ n → isOpen (slotAt s n) ≡ false
+pub shut-past : (s : Slots) (n : ℕ) → Eight s → 8 ≤ n → isOpen (slotAt s n) ≡ false
 shut-past s n e h = rw (slot-past s n e h) closed-shut
 
 pub shut-off : (s : Slots) (n : ℕ) → Eight s → Shut s n → isOpen (slotAt s n) ≡ false

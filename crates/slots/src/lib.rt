@@ -16,8 +16,11 @@ ghost use Rattle.slots.specs.Slots.{
   opened,
   closed,
   sequenced,
+  refused,
+  _showing_,
   pictured,
 };
+ghost use Rattle.held.specs.Held.{nothing};
 
 // The answer of a call that reads nothing.
 pub enum Answer {
@@ -169,23 +172,36 @@ impl Slots {
         self.replaced(n, Slot::fresh())
     }
 
-    pub fn picture(self, n: u64) -> Pictured
-        ensures { λ r. ⌜ r ≡ pictured self n ⌝ }
+    // A picture's refusal: it shows nothing, and every slot stays.
+    fn unshown(self) -> Pictured
+        ensures { λ r. ⌜ r ≡ refused self showing nothing ⌝ }
     {
-        let here = self.slot(n);
-        if here.is_open() {
-            let held = here.held;
-            let left = held.kept();
-            return Pictured {
-                answer: Answer::Done,
-                held,
-                slots: self.with(n, here.holding(left)),
-            };
-        }
         Pictured {
             answer: Answer::Refused(Refusal::slot()),
             held: Held::nothing(),
             slots: self,
         }
+    }
+
+    // The slot is read and replaced in place: each call that takes the eight copies them.
+    pub fn picture(mut self, n: u64) -> Pictured
+        ensures { λ r. ⌜ r ≡ pictured self n ⌝ }
+    {
+        if 8 <= n {
+            return self.unshown();
+        }
+        let place = n as usize;
+        let here = self.slots[place];
+        if here.is_open() {
+            let held = here.held;
+            let left = held.kept();
+            self.slots[place] = here.holding(left);
+            return Pictured {
+                answer: Answer::Done,
+                held,
+                slots: self,
+            };
+        }
+        self.unshown()
     }
 }
