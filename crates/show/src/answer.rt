@@ -18,6 +18,7 @@ use crate::style::Style;
 use crate::user_names::registered;
 use crate::user_names::unregistered;
 use print::ROOM;
+use print::number;
 use print::numbered;
 use print::text;
 
@@ -48,7 +49,9 @@ fn record(
 
 // A kind by number and name, on a line of its own.
 fn named(out: &mut [u8; ROOM], kind: u64) {
-    numbered(out, b"\n  kind #: ", kind);
+    text(out, b"\n  kind ");
+    number(out, kind);
+    text(out, b": ");
     kind::name(out, kind);
 }
 

@@ -1,6 +1,7 @@
 // The number that a caller gets: in a word or two, in a sentence, and where to look.
 use print::ROOM;
-use print::numbered;
+use print::byte;
+use print::number;
 use print::piece;
 use print::text;
 
@@ -11,7 +12,8 @@ fn place(n: u32) -> u64 {
 
 // Of a read or a feed.
 pub(crate) fn read(out: &mut [u8; ROOM], n: u32) {
-    numbered(out, b"# ", n as u64);
+    number(out, n as u64);
+    byte(out, b' ');
     piece(
         out,
         b"taken|unknown kind|bad size|payload too short|too many zeros|rule broken|too many regions|bad tail|no such slot, or it is closed|\

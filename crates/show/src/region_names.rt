@@ -8,6 +8,7 @@ use crate::guard::reserved;
 use crate::names::uncancelled;
 use crate::style::Style;
 use print::ROOM;
+use print::byte;
 use print::number;
 use print::numbered;
 use print::piece;
@@ -27,9 +28,12 @@ fn extent(out: &mut [u8; ROOM], row: &[u64], from: usize)
     requires { ⌜ from ≤ 65536 ⌝ }
 {
     number(out, at(row, from));
-    numbered(out, b"x#", at(row, from + 1));
-    numbered(out, b" at #", at(row, from + 3));
-    numbered(out, b",#", at(row, from + 2));
+    byte(out, b'x');
+    number(out, at(row, from + 1));
+    text(out, b" at ");
+    number(out, at(row, from + 3));
+    byte(out, b',');
+    number(out, at(row, from + 2));
 }
 
 fn transform(out: &mut [u8; ROOM], n: u64) {
@@ -149,7 +153,9 @@ fn written(out: &mut [u8; ROOM], row: &[u64], region: Region)
     requires { ⌜ region .from ≤ 1024 ⌝ }
 {
     let from = region.from;
-    numbered(out, b"\n  region #: packed ", region.index);
+    text(out, b"\n  region ");
+    number(out, region.index);
+    text(out, b": packed ");
     extent(out, row, from + 6);
     text(out, b" -> projected ");
     extent(out, row, from + 2);
