@@ -60,6 +60,10 @@ shutAs Unlisted = plain (Refused bySlot) message.Nothing 0
 unfoldable pub shutAnswer : ℕ → Answer
 shutAnswer kind = shutAs (named kind)
 
+-- 8, and every slot stays
+abbrev pub shutTo : Slots → ℕ → Fed
+shutTo s kind = record { answer = shutAnswer kind; slots = s }
+
 -- 8, else the reader's answer and what it leaves
 unfoldable pub fedTo : Slots → ℕ → ℕ → ℕ → List ℕ → Fed
 fedTo s n kind size bytes =
@@ -67,4 +71,4 @@ fedTo s n kind size bytes =
     let answer = answerTo kind size bytes in
     if isOpen here
     then record { answer = answer; slots = withSlot s n (holding here (heldAfter (here .held) answer)) }
-    else record { answer = shutAnswer kind; slots = s }
+    else shutTo s kind

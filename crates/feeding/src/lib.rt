@@ -9,7 +9,7 @@ use reader::payload;
 use regions::Packing;
 use slots::Slots;
 ghost use mathlib.Core.Path.{_≡_};
-ghost use Rattle.feeding.specs.Feed.{heldWith, heldBy, shutAnswer, fedTo};
+ghost use Rattle.feeding.specs.Feed.{heldWith, heldBy, shutAnswer, shutTo, fedTo};
 
 // What a taken message leaves of the held records; the record of kind 155 stands beside its message.
 fn held_with(held: Held, message: Message, regions: Packing) -> Held
@@ -57,15 +57,22 @@ pub struct Fed {
     pub slots: Slots,
 }
 
+// Refusal 8: every slot stays.
+fn refused(slots: Slots, kind: u64) -> Fed
+    ensures { λ r. ⌜ r ≡ shutTo slots kind ⌝ }
+{
+    Fed {
+        answer: shut(kind),
+        slots,
+    }
+}
+
 // The slot is judged before anything is read. It is read and replaced in place: each call that takes the eight copies them.
 pub fn feed(mut slots: Slots, n: u64, kind: u64, size: u64, bytes: &[u8]) -> Fed
     ensures { λ r. ⌜ r ≡ fedTo slots n kind size (now (bytes .entry)) ⌝ }
 {
     if 8 <= n {
-        return Fed {
-            answer: shut(kind),
-            slots,
-        };
+        return refused(slots, kind);
     }
     let at = n as usize;
     let here = slots.slots[at];
@@ -79,8 +86,5 @@ pub fn feed(mut slots: Slots, n: u64, kind: u64, size: u64, bytes: &[u8]) -> Fed
         slots.slots[at] = here.holding(left);
         return Fed { answer, slots };
     }
-    Fed {
-        answer: shut(kind),
-        slots,
-    }
+    refused(slots, kind)
 }

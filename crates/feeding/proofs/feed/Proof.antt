@@ -15,14 +15,14 @@ use Rattle.slots.specs.declared.Slot.{Slot}
 use Rattle.slots.specs.declared.Slots.{Slots}
 use Rattle.slots.proofs.Entries.{eight}
 use Rattle.slots.proofs.Laws.{slot-within, shut-past}
-use Rattle.feeding.specs.Feed.{heldBy, heldAfter, shutAnswer, fedTo}
+use Rattle.feeding.specs.Feed.{heldBy, heldAfter, shutTo, fedTo}
 use Rattle.feeding.proofs.feed.Statement.{statement}
 use Rattle.feeding.proofs.feed.Tie as tie
 
 module _ (s : Slots) (n kind size : ℕ) (bytes : List ℕ) where
-  off : (answer : Answer) → isOpen (slotAt s n) ≡ false → answer ≡ shutAnswer kind → record { answer = answer; slots = s } ≡ fedTo s n kind size bytes
+  off : isOpen (slotAt s n) ≡ false → shutTo s kind ≡ fedTo s n kind size bytes
   unfolding fedTo
-  off answer h a = rw (h, a)
+  off h = rw h
 
   -- here is what is read of slot n, and x is what is stored there
   on : (here x : Slot) (answer : Answer) (left : Held) → here ≡ slotAt s n → isOpen here ≡ true → answer ≡ answerTo kind size bytes →
@@ -35,7 +35,7 @@ past : tie.Need-returns
 past c =
     let first = c .before .before .before in
     let s = first .args .t1 in
-    off s _ _ _ _ _ (shut-past s _ (eight s _ (first .good .0)) (omega arith)) (c .shut .ensures)
+    c .refused .ensures ∙ off s _ _ _ _ (shut-past s _ (eight s _ (first .good .0)) (omega arith))
 
 open-slot : tie.Need-returns-2
 open-slot c =
@@ -58,7 +58,7 @@ shut c =
     let first = is .before .before .before .before in
     let s = first .args .t1 in
     let e = slot-within s (first .args .n) _ (eight s _ (first .good .0)) (omega arith) in
-    off s _ _ _ _ _ (ap isOpen (sym e) ∙ sym (is .is-open .ensures) ∙ closed .if2 .left) (c .shut2 .ensures)
+    c .refused2 .ensures ∙ off s _ _ _ _ (ap isOpen (sym e) ∙ sym (is .is-open .ensures) ∙ closed .if2 .left)
 
 pub feed-spec : {M : Type 1} → statement M
 feed-spec =

@@ -1,0 +1,10 @@
+-- `feeding::refused` meets its contract.
+-- Assumes nothing.
+use Rattle.feeding.proofs.refused.Statement.{statement}
+use Rattle.feeding.proofs.refused.Tie as tie
+
+returns : tie.Need-returns
+returns c = simp (c .shut .ensures)
+
+pub refused-spec : {M : Type 1} → statement M
+refused-spec = tie.close (tie.spec (λ c κs. tt) returns)
