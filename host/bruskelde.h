@@ -9,7 +9,7 @@
  * with a null pointer.
  *
  * This file is kept by hand: the declarations are those of crates/host/src, lib.rt for the payload calls and slot.rt for the slot calls.
- * The rows are those of crates/fields/specs/Fields.antt, which the functions are proved to follow.
+ * The rows are those of crates/record_row/specs/Fields.antt, which the functions are proved to follow.
  */
 #ifndef BRUSKELDE_H
 #define BRUSKELDE_H
@@ -86,30 +86,32 @@ enum {
 };
 
 /*
- * The places in a row: row[BRUSKELDE_EXTENSION] for every kind, and then by kind.
+ * The places in a row: row[BRUSKELDE_EXTENSION] for every kind, and then by kind. A field has its name in the syntax tables of H.274; the
+ * extension count, degrees, where regions and depth numbers start, the depth list's count, a depth number's state and bits, and lengths
+ * have names of ours.
  */
 enum { BRUSKELDE_EXTENSION = 0 };
 
 /* 45, frame packing. What type and content interpretation say stands at struct bruskelde_layout. Grid positions are in sixteenths of a
  * sample from the upper left corner; x and y both 0 are the default place of the type, both 15 an unknown one. */
 enum {
-    BRUSKELDE_45_ID = 1,
-    BRUSKELDE_45_CANCEL = 2,
-    BRUSKELDE_45_TYPE = 3,
-    BRUSKELDE_45_QUINCUNX = 4,
-    BRUSKELDE_45_CONTENT_INTERPRETATION = 5,
-    BRUSKELDE_45_SPATIAL_FLIPPING = 6,
-    BRUSKELDE_45_FRAME0_FLIPPED = 7,
-    BRUSKELDE_45_FIELD_VIEWS = 8,
-    BRUSKELDE_45_CURRENT_IS_FRAME0 = 9,
-    BRUSKELDE_45_FRAME0_SELF_CONTAINED = 10,
-    BRUSKELDE_45_FRAME1_SELF_CONTAINED = 11,
-    BRUSKELDE_45_FRAME0_X = 12,
-    BRUSKELDE_45_FRAME0_Y = 13,
-    BRUSKELDE_45_FRAME1_X = 14,
-    BRUSKELDE_45_FRAME1_Y = 15,
-    BRUSKELDE_45_PERSISTENCE = 16,
-    BRUSKELDE_45_UPSAMPLED_ASPECT_RATIO = 17
+    BRUSKELDE_FP_ARRANGEMENT_ID = 1,
+    BRUSKELDE_FP_ARRANGEMENT_CANCEL_FLAG = 2,
+    BRUSKELDE_FP_ARRANGEMENT_TYPE = 3,
+    BRUSKELDE_FP_QUINCUNX_SAMPLING_FLAG = 4,
+    BRUSKELDE_FP_CONTENT_INTERPRETATION_TYPE = 5,
+    BRUSKELDE_FP_SPATIAL_FLIPPING_FLAG = 6,
+    BRUSKELDE_FP_FRAME0_FLIPPED_FLAG = 7,
+    BRUSKELDE_FP_FIELD_VIEWS_FLAG = 8,
+    BRUSKELDE_FP_CURRENT_FRAME_IS_FRAME0_FLAG = 9,
+    BRUSKELDE_FP_FRAME0_SELF_CONTAINED_FLAG = 10,
+    BRUSKELDE_FP_FRAME1_SELF_CONTAINED_FLAG = 11,
+    BRUSKELDE_FP_FRAME0_GRID_POSITION_X = 12,
+    BRUSKELDE_FP_FRAME0_GRID_POSITION_Y = 13,
+    BRUSKELDE_FP_FRAME1_GRID_POSITION_X = 14,
+    BRUSKELDE_FP_FRAME1_GRID_POSITION_Y = 15,
+    BRUSKELDE_FP_ARRANGEMENT_PERSISTENCE_FLAG = 16,
+    BRUSKELDE_FP_UPSAMPLED_ASPECT_RATIO_FLAG = 17
 };
 
 /* 47, orientation. Transform types, here and of regions. 47: what to do to the picture before it is shown; 155: to the packed region, to
@@ -119,9 +121,9 @@ enum {
  *      2  rotate by 180                    6  rotate by 270, then mirror
  *      3  rotate by 180, then mirror       7  rotate by 270 */
 enum {
-    BRUSKELDE_47_CANCEL = 1,
-    BRUSKELDE_47_PERSISTENCE = 2,
-    BRUSKELDE_47_TRANSFORM = 3
+    BRUSKELDE_DISPLAY_ORIENTATION_CANCEL_FLAG = 1,
+    BRUSKELDE_DISPLAY_ORIENTATION_PERSISTENCE_FLAG = 2,
+    BRUSKELDE_DISPLAY_ORIENTATION_TRANSFORM_TYPE = 3
 };
 
 /* 150, equirectangular. Widths are in luma samples. Guard types, here and of regions: what a guard band contains.
@@ -130,64 +132,65 @@ enum {
  *      2  picture content whose quality changes gradually to that of the neighbour on the sphere
  *      3  picture content of like quality */
 enum {
-    BRUSKELDE_150_CANCEL = 1,
-    BRUSKELDE_150_PERSISTENCE = 2,
-    BRUSKELDE_150_GUARDED = 3,
-    BRUSKELDE_150_GUARD_TYPE = 4,
-    BRUSKELDE_150_LEFT_WIDTH = 5,
-    BRUSKELDE_150_RIGHT_WIDTH = 6
+    BRUSKELDE_ERP_CANCEL_FLAG = 1,
+    BRUSKELDE_ERP_PERSISTENCE_FLAG = 2,
+    BRUSKELDE_ERP_GUARD_BAND_FLAG = 3,
+    BRUSKELDE_ERP_GUARD_BAND_TYPE = 4,
+    BRUSKELDE_ERP_LEFT_GUARD_BAND_WIDTH = 5,
+    BRUSKELDE_ERP_RIGHT_GUARD_BAND_WIDTH = 6
 };
 
 /* 154, sphere rotation. The angles as coded, in 1/65536 of a degree, are 32 bits in two's complement, so
- * (int32_t)(uint32_t)row[BRUSKELDE_154_YAW]; those in degrees are the 64 bits of a double, to be copied to one by memcpy. */
+ * (int32_t)(uint32_t)row[BRUSKELDE_YAW_ROTATION]; those in degrees are the 64 bits of a double, to be copied to one by memcpy. */
 enum {
-    BRUSKELDE_154_CANCEL = 1,
-    BRUSKELDE_154_PERSISTENCE = 2,
-    BRUSKELDE_154_YAW = 3,
-    BRUSKELDE_154_PITCH = 4,
-    BRUSKELDE_154_ROLL = 5,
-    BRUSKELDE_154_YAW_DEGREES = 6,
-    BRUSKELDE_154_PITCH_DEGREES = 7,
-    BRUSKELDE_154_ROLL_DEGREES = 8
+    BRUSKELDE_SPHERE_ROTATION_CANCEL_FLAG = 1,
+    BRUSKELDE_SPHERE_ROTATION_PERSISTENCE_FLAG = 2,
+    BRUSKELDE_YAW_ROTATION = 3,
+    BRUSKELDE_PITCH_ROTATION = 4,
+    BRUSKELDE_ROLL_ROTATION = 5,
+    BRUSKELDE_YAW_DEGREES = 6,
+    BRUSKELDE_PITCH_DEGREES = 7,
+    BRUSKELDE_ROLL_DEGREES = 8
 };
 
-/* 155, region-wise packing; region i is BRUSKELDE_REGION numbers from BRUSKELDE_155_REGIONS + i * BRUSKELDE_REGION on, for each i below
+/* 155, region-wise packing; region i is BRUSKELDE_REGION numbers from BRUSKELDE_RWP_REGIONS + i * BRUSKELDE_REGION on, for each i below
  * BRUSKELDE_MOST_REGIONS. Projected sizes and places are in relative projected picture sample units; packed ones, and guard bands, in
  * relative packed picture sample units. With the matching flag the regions hold for each of the two frames of kind 45, else for the
  * whole picture. */
 enum {
-    BRUSKELDE_155_CANCEL = 1,
-    BRUSKELDE_155_PERSISTENCE = 2,
-    BRUSKELDE_155_MATCHING = 3,
-    BRUSKELDE_155_COUNT = 4,
-    BRUSKELDE_155_PROJECTED_WIDTH = 5,
-    BRUSKELDE_155_PROJECTED_HEIGHT = 6,
-    BRUSKELDE_155_PACKED_WIDTH = 7,
-    BRUSKELDE_155_PACKED_HEIGHT = 8,
-    BRUSKELDE_155_REGIONS = 9
+    BRUSKELDE_RWP_CANCEL_FLAG = 1,
+    BRUSKELDE_RWP_PERSISTENCE_FLAG = 2,
+    BRUSKELDE_RWP_CONSTITUENT_PICTURE_MATCHING_FLAG = 3,
+    BRUSKELDE_RWP_NUM_PACKED_REGIONS = 4,
+    BRUSKELDE_RWP_PROJ_PICTURE_WIDTH = 5,
+    BRUSKELDE_RWP_PROJ_PICTURE_HEIGHT = 6,
+    BRUSKELDE_RWP_PACKED_PICTURE_WIDTH = 7,
+    BRUSKELDE_RWP_PACKED_PICTURE_HEIGHT = 8,
+    BRUSKELDE_RWP_REGIONS = 9
 };
 
-/* Places within a region, from its first number on. */
+/* Places within a region, from its first number on: row[BRUSKELDE_RWP_REGIONS + i * BRUSKELDE_REGION + BRUSKELDE_REGION_RWP_TRANSFORM_TYPE]. Its
+ * last four numbers are rwp_guard_band_type[i][j] for j from 0 to 3. */
 enum {
-    BRUSKELDE_REGION_TRANSFORM = 0,
-    BRUSKELDE_REGION_GUARDED = 1,
-    BRUSKELDE_REGION_PROJECTED_WIDTH = 2,
-    BRUSKELDE_REGION_PROJECTED_HEIGHT = 3,
-    BRUSKELDE_REGION_PROJECTED_TOP = 4,
-    BRUSKELDE_REGION_PROJECTED_LEFT = 5,
-    BRUSKELDE_REGION_PACKED_WIDTH = 6,
-    BRUSKELDE_REGION_PACKED_HEIGHT = 7,
-    BRUSKELDE_REGION_PACKED_TOP = 8,
-    BRUSKELDE_REGION_PACKED_LEFT = 9,
-    BRUSKELDE_REGION_GUARD_LEFT_WIDTH = 10,
-    BRUSKELDE_REGION_GUARD_RIGHT_WIDTH = 11,
-    BRUSKELDE_REGION_GUARD_TOP_HEIGHT = 12,
-    BRUSKELDE_REGION_GUARD_BOTTOM_HEIGHT = 13,
-    BRUSKELDE_REGION_GUARD_NOT_USED = 14,       /* not used for prediction */
-    BRUSKELDE_REGION_GUARD_TYPE_LEFT = 15,
-    BRUSKELDE_REGION_GUARD_TYPE_RIGHT = 16,
-    BRUSKELDE_REGION_GUARD_TYPE_TOP = 17,
-    BRUSKELDE_REGION_GUARD_TYPE_BOTTOM = 18,
+    BRUSKELDE_REGION_RWP_TRANSFORM_TYPE = 0,
+    BRUSKELDE_REGION_RWP_GUARD_BAND_FLAG = 1,
+    BRUSKELDE_REGION_RWP_PROJ_REGION_WIDTH = 2,
+    BRUSKELDE_REGION_RWP_PROJ_REGION_HEIGHT = 3,
+    BRUSKELDE_REGION_RWP_PROJ_REGION_TOP = 4,
+    BRUSKELDE_REGION_RWP_PROJ_REGION_LEFT = 5,
+    BRUSKELDE_REGION_RWP_PACKED_REGION_WIDTH = 6,
+    BRUSKELDE_REGION_RWP_PACKED_REGION_HEIGHT = 7,
+    BRUSKELDE_REGION_RWP_PACKED_REGION_TOP = 8,
+    BRUSKELDE_REGION_RWP_PACKED_REGION_LEFT = 9,
+    BRUSKELDE_REGION_RWP_LEFT_GUARD_BAND_WIDTH = 10,
+    BRUSKELDE_REGION_RWP_RIGHT_GUARD_BAND_WIDTH = 11,
+    BRUSKELDE_REGION_RWP_TOP_GUARD_BAND_HEIGHT = 12,
+    BRUSKELDE_REGION_RWP_BOTTOM_GUARD_BAND_HEIGHT = 13,
+    BRUSKELDE_REGION_RWP_GUARD_BAND_NOT_USED_FOR_PRED_FLAG = 14,   /* not used for prediction */
+    BRUSKELDE_REGION_RWP_GUARD_BAND_TYPE_LEFT = 15,
+    BRUSKELDE_REGION_RWP_GUARD_BAND_TYPE_RIGHT = 16,
+    BRUSKELDE_REGION_RWP_GUARD_BAND_TYPE_TOP = 17,
+    BRUSKELDE_REGION_RWP_GUARD_BAND_TYPE_BOTTOM = 18,
     BRUSKELDE_REGION = 19
 };
 
@@ -199,20 +202,22 @@ enum {
  * Increment: samples above the lower of the two values count as one more. Clip: to the nearer of the two values (clip type 0) or to
  * the range between them (1), before the increment. */
 enum {
-    BRUSKELDE_165_CANCEL = 1,
-    BRUSKELDE_165_USE = 2,
-    BRUSKELDE_165_BIT_DEPTH_MINUS8 = 3,
-    BRUSKELDE_165_TRANSPARENT_VALUE = 4,
-    BRUSKELDE_165_OPAQUE_VALUE = 5,
-    BRUSKELDE_165_INCREMENT = 6,
-    BRUSKELDE_165_CLIP = 7,
-    BRUSKELDE_165_CLIP_TYPE = 8
+    BRUSKELDE_ALPHA_CHANNEL_CANCEL_FLAG = 1,
+    BRUSKELDE_ALPHA_CHANNEL_USE_IDC = 2,
+    BRUSKELDE_ALPHA_CHANNEL_BIT_DEPTH_MINUS8 = 3,
+    BRUSKELDE_ALPHA_TRANSPARENT_VALUE = 4,
+    BRUSKELDE_ALPHA_OPAQUE_VALUE = 5,
+    BRUSKELDE_ALPHA_CHANNEL_INCR_FLAG = 6,
+    BRUSKELDE_ALPHA_CHANNEL_CLIP_FLAG = 7,
+    BRUSKELDE_ALPHA_CHANNEL_CLIP_TYPE_FLAG = 8
 };
 
 /* 177, depth. Each of the four numbers is BRUSKELDE_VALUE numbers from its place on. z near and z far are the nearest and the farthest
  * distance, in a unit that H.274 leaves open; d min and d max the least and the greatest disparity, in luma sample widths. The reference
- * view is the one for which disparities are derived. The list, of BRUSKELDE_MOST_LISTED numbers, stands from BRUSKELDE_177_LIST on: how
- * far each node lies off the straight line; its count is 0 without a list, and else one less than the mapping's linear segments.
+ * view is the one for which disparities are derived. The list, of BRUSKELDE_MOST_LISTED numbers, stands from
+ * BRUSKELDE_DEPTH_NONLINEAR_REPRESENTATION_MODEL on, the first being depth_nonlinear_representation_model[1]: how far each node lies
+ * off the straight line; its count is 0 without a list, and else depth_nonlinear_representation_num_minus1 + 1, one less than the
+ * mapping's linear segments.
  * Representation types:
  *      0  samples are the inverse of the distance: 0 stands for z far, the greatest for z near
  *      1  samples are disparity: 0 stands for d min, the greatest for d max
@@ -220,26 +225,26 @@ enum {
  *      3  samples are disparity, mapped by the list
  *      4 to 15  reserved: H.274 has what follows them ignored; here it is read */
 enum {
-    BRUSKELDE_177_Z_NEAR_FLAG = 1,
-    BRUSKELDE_177_Z_FAR_FLAG = 2,
-    BRUSKELDE_177_D_MIN_FLAG = 3,
-    BRUSKELDE_177_D_MAX_FLAG = 4,
-    BRUSKELDE_177_TYPE = 5,
-    BRUSKELDE_177_REFERENCE_VIEW = 6,
-    BRUSKELDE_177_Z_NEAR = 7,
-    BRUSKELDE_177_Z_FAR = 13,
-    BRUSKELDE_177_D_MIN = 19,
-    BRUSKELDE_177_D_MAX = 25,
-    BRUSKELDE_177_COUNT = 31,
-    BRUSKELDE_177_LIST = 32
+    BRUSKELDE_Z_NEAR_FLAG = 1,
+    BRUSKELDE_Z_FAR_FLAG = 2,
+    BRUSKELDE_D_MIN_FLAG = 3,
+    BRUSKELDE_D_MAX_FLAG = 4,
+    BRUSKELDE_DEPTH_REPRESENTATION_TYPE = 5,
+    BRUSKELDE_DISPARITY_REF_VIEW_ID = 6,
+    BRUSKELDE_Z_NEAR = 7,
+    BRUSKELDE_Z_FAR = 13,
+    BRUSKELDE_D_MIN = 19,
+    BRUSKELDE_D_MAX = 25,
+    BRUSKELDE_DEPTH_COUNT = 31,
+    BRUSKELDE_DEPTH_NONLINEAR_REPRESENTATION_MODEL = 32
 };
 
-/* Places within one of the four numbers, from its first on. */
+/* Places within one of the four numbers, from its first on: row[BRUSKELDE_Z_NEAR + BRUSKELDE_VALUE_DA_SIGN_FLAG]. */
 enum {
-    BRUSKELDE_VALUE_SIGN = 0,
-    BRUSKELDE_VALUE_EXPONENT = 1,
-    BRUSKELDE_VALUE_MANTISSA_LENGTH_MINUS1 = 2,
-    BRUSKELDE_VALUE_MANTISSA = 3,
+    BRUSKELDE_VALUE_DA_SIGN_FLAG = 0,
+    BRUSKELDE_VALUE_DA_EXPONENT = 1,
+    BRUSKELDE_VALUE_DA_MANTISSA_LEN_MINUS1 = 2,
+    BRUSKELDE_VALUE_DA_MANTISSA = 3,
     BRUSKELDE_VALUE_STATE = 4,      /* 0 where it is absent, 1 where it is unspecified, 2 where it is a number */
     BRUSKELDE_VALUE_BITS = 5,       /* the 64 bits of the number as a double; 0 where there is none */
     BRUSKELDE_VALUE = 6
@@ -247,12 +252,12 @@ enum {
 
 /* 4, registered user data. The extension byte is the one after the country code 255. */
 enum {
-    BRUSKELDE_4_COUNTRY_CODE = 1,
-    BRUSKELDE_4_EXTENSION_BYTE = 2
+    BRUSKELDE_ITU_T_T35_COUNTRY_CODE = 1,
+    BRUSKELDE_ITU_T_T35_COUNTRY_CODE_EXTENSION_BYTE = 2
 };
 
 /* 5, unregistered user data: the identifier's sixteen bytes. */
-enum { BRUSKELDE_5_IDENTIFIER = 1 };
+enum { BRUSKELDE_UUID_ISO_IEC_11578 = 1 };
 
 /* A part of the lent bytes: bytes[offset] to bytes[offset + length - 1]. */
 struct bruskelde_part {

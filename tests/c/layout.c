@@ -164,43 +164,43 @@ static void check_frame_packing(const struct bruskelde_held *held, const uint64_
 {
     const struct bruskelde_frame_packing *value = &held->frame_packing.value;
     SAME(held->frame_packing.on, 1);
-    SAME(value->id, row[BRUSKELDE_45_ID]);
-    SAME(value->cancel, row[BRUSKELDE_45_CANCEL]);
-    SAME(value->layout.arrangement_type, row[BRUSKELDE_45_TYPE]);
-    SAME(value->layout.quincunx, row[BRUSKELDE_45_QUINCUNX]);
-    SAME(value->layout.content_interpretation, row[BRUSKELDE_45_CONTENT_INTERPRETATION]);
-    SAME(value->layout.flags.spatial_flipping, row[BRUSKELDE_45_SPATIAL_FLIPPING]);
-    SAME(value->layout.flags.frame0_flipped, row[BRUSKELDE_45_FRAME0_FLIPPED]);
-    SAME(value->layout.flags.field_views, row[BRUSKELDE_45_FIELD_VIEWS]);
-    SAME(value->layout.flags.current_is_frame0, row[BRUSKELDE_45_CURRENT_IS_FRAME0]);
-    SAME(value->layout.flags.frame0_self_contained, row[BRUSKELDE_45_FRAME0_SELF_CONTAINED]);
-    SAME(value->layout.flags.frame1_self_contained, row[BRUSKELDE_45_FRAME1_SELF_CONTAINED]);
-    SAME(value->layout.grid.frame0_x, row[BRUSKELDE_45_FRAME0_X]);
-    SAME(value->layout.grid.frame0_y, row[BRUSKELDE_45_FRAME0_Y]);
-    SAME(value->layout.grid.frame1_x, row[BRUSKELDE_45_FRAME1_X]);
-    SAME(value->layout.grid.frame1_y, row[BRUSKELDE_45_FRAME1_Y]);
-    SAME(value->layout.persistence, row[BRUSKELDE_45_PERSISTENCE]);
-    SAME(value->upsampled_aspect_ratio, row[BRUSKELDE_45_UPSAMPLED_ASPECT_RATIO]);
+    SAME(value->id, row[BRUSKELDE_FP_ARRANGEMENT_ID]);
+    SAME(value->cancel, row[BRUSKELDE_FP_ARRANGEMENT_CANCEL_FLAG]);
+    SAME(value->layout.arrangement_type, row[BRUSKELDE_FP_ARRANGEMENT_TYPE]);
+    SAME(value->layout.quincunx, row[BRUSKELDE_FP_QUINCUNX_SAMPLING_FLAG]);
+    SAME(value->layout.content_interpretation, row[BRUSKELDE_FP_CONTENT_INTERPRETATION_TYPE]);
+    SAME(value->layout.flags.spatial_flipping, row[BRUSKELDE_FP_SPATIAL_FLIPPING_FLAG]);
+    SAME(value->layout.flags.frame0_flipped, row[BRUSKELDE_FP_FRAME0_FLIPPED_FLAG]);
+    SAME(value->layout.flags.field_views, row[BRUSKELDE_FP_FIELD_VIEWS_FLAG]);
+    SAME(value->layout.flags.current_is_frame0, row[BRUSKELDE_FP_CURRENT_FRAME_IS_FRAME0_FLAG]);
+    SAME(value->layout.flags.frame0_self_contained, row[BRUSKELDE_FP_FRAME0_SELF_CONTAINED_FLAG]);
+    SAME(value->layout.flags.frame1_self_contained, row[BRUSKELDE_FP_FRAME1_SELF_CONTAINED_FLAG]);
+    SAME(value->layout.grid.frame0_x, row[BRUSKELDE_FP_FRAME0_GRID_POSITION_X]);
+    SAME(value->layout.grid.frame0_y, row[BRUSKELDE_FP_FRAME0_GRID_POSITION_Y]);
+    SAME(value->layout.grid.frame1_x, row[BRUSKELDE_FP_FRAME1_GRID_POSITION_X]);
+    SAME(value->layout.grid.frame1_y, row[BRUSKELDE_FP_FRAME1_GRID_POSITION_Y]);
+    SAME(value->layout.persistence, row[BRUSKELDE_FP_ARRANGEMENT_PERSISTENCE_FLAG]);
+    SAME(value->upsampled_aspect_ratio, row[BRUSKELDE_FP_UPSAMPLED_ASPECT_RATIO_FLAG]);
 }
 
 static void check_orientation(const struct bruskelde_held *held, const uint64_t *row)
 {
     SAME(held->orientation.on, 1);
-    SAME(held->orientation.value.cancel, row[BRUSKELDE_47_CANCEL]);
-    SAME(held->orientation.value.persistence, row[BRUSKELDE_47_PERSISTENCE]);
-    SAME(held->orientation.value.transform, row[BRUSKELDE_47_TRANSFORM]);
+    SAME(held->orientation.value.cancel, row[BRUSKELDE_DISPLAY_ORIENTATION_CANCEL_FLAG]);
+    SAME(held->orientation.value.persistence, row[BRUSKELDE_DISPLAY_ORIENTATION_PERSISTENCE_FLAG]);
+    SAME(held->orientation.value.transform, row[BRUSKELDE_DISPLAY_ORIENTATION_TRANSFORM_TYPE]);
 }
 
 static void check_equirectangular(const struct bruskelde_held *held, const uint64_t *row)
 {
     const struct bruskelde_equirectangular *value = &held->equirectangular.value;
     SAME(held->equirectangular.on, 1);
-    SAME(value->cancel, row[BRUSKELDE_150_CANCEL]);
-    SAME(value->persistence, row[BRUSKELDE_150_PERSISTENCE]);
-    SAME(value->guarded, row[BRUSKELDE_150_GUARDED]);
-    SAME(value->guard_type, row[BRUSKELDE_150_GUARD_TYPE]);
-    SAME(value->left_width, row[BRUSKELDE_150_LEFT_WIDTH]);
-    SAME(value->right_width, row[BRUSKELDE_150_RIGHT_WIDTH]);
+    SAME(value->cancel, row[BRUSKELDE_ERP_CANCEL_FLAG]);
+    SAME(value->persistence, row[BRUSKELDE_ERP_PERSISTENCE_FLAG]);
+    SAME(value->guarded, row[BRUSKELDE_ERP_GUARD_BAND_FLAG]);
+    SAME(value->guard_type, row[BRUSKELDE_ERP_GUARD_BAND_TYPE]);
+    SAME(value->left_width, row[BRUSKELDE_ERP_LEFT_GUARD_BAND_WIDTH]);
+    SAME(value->right_width, row[BRUSKELDE_ERP_RIGHT_GUARD_BAND_WIDTH]);
 }
 
 static uint64_t bits_of(double number)
@@ -214,53 +214,53 @@ static void check_rotation(const struct bruskelde_held *held, const uint64_t *ro
 {
     const struct bruskelde_rotation *value = &held->rotation.value;
     SAME(held->rotation.on, 1);
-    SAME(value->cancel, row[BRUSKELDE_154_CANCEL]);
-    SAME(value->persistence, row[BRUSKELDE_154_PERSISTENCE]);
-    SAME((uint32_t)value->yaw, row[BRUSKELDE_154_YAW]);
-    SAME((uint32_t)value->pitch, row[BRUSKELDE_154_PITCH]);
-    SAME((uint32_t)value->roll, row[BRUSKELDE_154_ROLL]);
-    SAME(bits_of(value->degrees.yaw), row[BRUSKELDE_154_YAW_DEGREES]);
-    SAME(bits_of(value->degrees.pitch), row[BRUSKELDE_154_PITCH_DEGREES]);
-    SAME(bits_of(value->degrees.roll), row[BRUSKELDE_154_ROLL_DEGREES]);
+    SAME(value->cancel, row[BRUSKELDE_SPHERE_ROTATION_CANCEL_FLAG]);
+    SAME(value->persistence, row[BRUSKELDE_SPHERE_ROTATION_PERSISTENCE_FLAG]);
+    SAME((uint32_t)value->yaw, row[BRUSKELDE_YAW_ROTATION]);
+    SAME((uint32_t)value->pitch, row[BRUSKELDE_PITCH_ROTATION]);
+    SAME((uint32_t)value->roll, row[BRUSKELDE_ROLL_ROTATION]);
+    SAME(bits_of(value->degrees.yaw), row[BRUSKELDE_YAW_DEGREES]);
+    SAME(bits_of(value->degrees.pitch), row[BRUSKELDE_PITCH_DEGREES]);
+    SAME(bits_of(value->degrees.roll), row[BRUSKELDE_ROLL_DEGREES]);
 }
 
 static void check_region(const struct bruskelde_region *region, const uint64_t *row)
 {
-    SAME(region->transform, row[BRUSKELDE_REGION_TRANSFORM]);
-    SAME(region->guarded, row[BRUSKELDE_REGION_GUARDED]);
-    SAME(region->projected.width, row[BRUSKELDE_REGION_PROJECTED_WIDTH]);
-    SAME(region->projected.height, row[BRUSKELDE_REGION_PROJECTED_HEIGHT]);
-    SAME(region->projected.top, row[BRUSKELDE_REGION_PROJECTED_TOP]);
-    SAME(region->projected.left, row[BRUSKELDE_REGION_PROJECTED_LEFT]);
-    SAME(region->packed.width, row[BRUSKELDE_REGION_PACKED_WIDTH]);
-    SAME(region->packed.height, row[BRUSKELDE_REGION_PACKED_HEIGHT]);
-    SAME(region->packed.top, row[BRUSKELDE_REGION_PACKED_TOP]);
-    SAME(region->packed.left, row[BRUSKELDE_REGION_PACKED_LEFT]);
-    SAME(region->guard.left_width, row[BRUSKELDE_REGION_GUARD_LEFT_WIDTH]);
-    SAME(region->guard.right_width, row[BRUSKELDE_REGION_GUARD_RIGHT_WIDTH]);
-    SAME(region->guard.top_height, row[BRUSKELDE_REGION_GUARD_TOP_HEIGHT]);
-    SAME(region->guard.bottom_height, row[BRUSKELDE_REGION_GUARD_BOTTOM_HEIGHT]);
-    SAME(region->guard.not_used, row[BRUSKELDE_REGION_GUARD_NOT_USED]);
-    SAME(region->guard.types.type0, row[BRUSKELDE_REGION_GUARD_TYPE_LEFT]);
-    SAME(region->guard.types.type1, row[BRUSKELDE_REGION_GUARD_TYPE_RIGHT]);
-    SAME(region->guard.types.type2, row[BRUSKELDE_REGION_GUARD_TYPE_TOP]);
-    SAME(region->guard.types.type3, row[BRUSKELDE_REGION_GUARD_TYPE_BOTTOM]);
+    SAME(region->transform, row[BRUSKELDE_REGION_RWP_TRANSFORM_TYPE]);
+    SAME(region->guarded, row[BRUSKELDE_REGION_RWP_GUARD_BAND_FLAG]);
+    SAME(region->projected.width, row[BRUSKELDE_REGION_RWP_PROJ_REGION_WIDTH]);
+    SAME(region->projected.height, row[BRUSKELDE_REGION_RWP_PROJ_REGION_HEIGHT]);
+    SAME(region->projected.top, row[BRUSKELDE_REGION_RWP_PROJ_REGION_TOP]);
+    SAME(region->projected.left, row[BRUSKELDE_REGION_RWP_PROJ_REGION_LEFT]);
+    SAME(region->packed.width, row[BRUSKELDE_REGION_RWP_PACKED_REGION_WIDTH]);
+    SAME(region->packed.height, row[BRUSKELDE_REGION_RWP_PACKED_REGION_HEIGHT]);
+    SAME(region->packed.top, row[BRUSKELDE_REGION_RWP_PACKED_REGION_TOP]);
+    SAME(region->packed.left, row[BRUSKELDE_REGION_RWP_PACKED_REGION_LEFT]);
+    SAME(region->guard.left_width, row[BRUSKELDE_REGION_RWP_LEFT_GUARD_BAND_WIDTH]);
+    SAME(region->guard.right_width, row[BRUSKELDE_REGION_RWP_RIGHT_GUARD_BAND_WIDTH]);
+    SAME(region->guard.top_height, row[BRUSKELDE_REGION_RWP_TOP_GUARD_BAND_HEIGHT]);
+    SAME(region->guard.bottom_height, row[BRUSKELDE_REGION_RWP_BOTTOM_GUARD_BAND_HEIGHT]);
+    SAME(region->guard.not_used, row[BRUSKELDE_REGION_RWP_GUARD_BAND_NOT_USED_FOR_PRED_FLAG]);
+    SAME(region->guard.types.type0, row[BRUSKELDE_REGION_RWP_GUARD_BAND_TYPE_LEFT]);
+    SAME(region->guard.types.type1, row[BRUSKELDE_REGION_RWP_GUARD_BAND_TYPE_RIGHT]);
+    SAME(region->guard.types.type2, row[BRUSKELDE_REGION_RWP_GUARD_BAND_TYPE_TOP]);
+    SAME(region->guard.types.type3, row[BRUSKELDE_REGION_RWP_GUARD_BAND_TYPE_BOTTOM]);
 }
 
 static void check_packing(const struct bruskelde_held *held, const uint64_t *row)
 {
     const struct bruskelde_packing *value = &held->regions.value;
     SAME(held->regions.on, 1);
-    SAME(value->cancel, row[BRUSKELDE_155_CANCEL]);
-    SAME(value->persistence, row[BRUSKELDE_155_PERSISTENCE]);
-    SAME(value->matching, row[BRUSKELDE_155_MATCHING]);
-    SAME(value->count, row[BRUSKELDE_155_COUNT]);
-    SAME(value->projected_width, row[BRUSKELDE_155_PROJECTED_WIDTH]);
-    SAME(value->projected_height, row[BRUSKELDE_155_PROJECTED_HEIGHT]);
-    SAME(value->packed_width, row[BRUSKELDE_155_PACKED_WIDTH]);
-    SAME(value->packed_height, row[BRUSKELDE_155_PACKED_HEIGHT]);
+    SAME(value->cancel, row[BRUSKELDE_RWP_CANCEL_FLAG]);
+    SAME(value->persistence, row[BRUSKELDE_RWP_PERSISTENCE_FLAG]);
+    SAME(value->matching, row[BRUSKELDE_RWP_CONSTITUENT_PICTURE_MATCHING_FLAG]);
+    SAME(value->count, row[BRUSKELDE_RWP_NUM_PACKED_REGIONS]);
+    SAME(value->projected_width, row[BRUSKELDE_RWP_PROJ_PICTURE_WIDTH]);
+    SAME(value->projected_height, row[BRUSKELDE_RWP_PROJ_PICTURE_HEIGHT]);
+    SAME(value->packed_width, row[BRUSKELDE_RWP_PACKED_PICTURE_WIDTH]);
+    SAME(value->packed_height, row[BRUSKELDE_RWP_PACKED_PICTURE_HEIGHT]);
     for (int i = 0; i < BRUSKELDE_MOST_REGIONS; i++)
-        check_region(&value->regions[i], row + BRUSKELDE_155_REGIONS + BRUSKELDE_REGION * i);
+        check_region(&value->regions[i], row + BRUSKELDE_RWP_REGIONS + BRUSKELDE_REGION * i);
 }
 
 static const struct kind {
@@ -392,14 +392,14 @@ static void check_alpha(void)
 {
     static const uint8_t bytes[] = {0x5f, 0xff, 0xff, 0x00, 0x03, 0xa0};
     const uint64_t *row = row_of(BRUSKELDE_ALPHA, bytes, sizeof bytes);
-    SAME(row[BRUSKELDE_165_CANCEL], 0);
-    SAME(row[BRUSKELDE_165_USE], 5);
-    SAME(row[BRUSKELDE_165_BIT_DEPTH_MINUS8], 7);
-    SAME(row[BRUSKELDE_165_TRANSPARENT_VALUE], 65535);
-    SAME(row[BRUSKELDE_165_OPAQUE_VALUE], 32769);
-    SAME(row[BRUSKELDE_165_INCREMENT], 1);
-    SAME(row[BRUSKELDE_165_CLIP], 1);
-    SAME(row[BRUSKELDE_165_CLIP_TYPE], 0);
+    SAME(row[BRUSKELDE_ALPHA_CHANNEL_CANCEL_FLAG], 0);
+    SAME(row[BRUSKELDE_ALPHA_CHANNEL_USE_IDC], 5);
+    SAME(row[BRUSKELDE_ALPHA_CHANNEL_BIT_DEPTH_MINUS8], 7);
+    SAME(row[BRUSKELDE_ALPHA_TRANSPARENT_VALUE], 65535);
+    SAME(row[BRUSKELDE_ALPHA_OPAQUE_VALUE], 32769);
+    SAME(row[BRUSKELDE_ALPHA_CHANNEL_INCR_FLAG], 1);
+    SAME(row[BRUSKELDE_ALPHA_CHANNEL_CLIP_FLAG], 1);
+    SAME(row[BRUSKELDE_ALPHA_CHANNEL_CLIP_TYPE_FLAG], 0);
 }
 
 struct value {
@@ -424,10 +424,10 @@ static void put_value(struct value value)
 static void check_value(const uint64_t *row, struct value value)
 {
     uint64_t fraction = value.mantissa << (52 - (value.length_minus1 + 1));
-    SAME(row[BRUSKELDE_VALUE_SIGN], value.sign);
-    SAME(row[BRUSKELDE_VALUE_EXPONENT], value.exponent);
-    SAME(row[BRUSKELDE_VALUE_MANTISSA_LENGTH_MINUS1], value.length_minus1);
-    SAME(row[BRUSKELDE_VALUE_MANTISSA], value.mantissa);
+    SAME(row[BRUSKELDE_VALUE_DA_SIGN_FLAG], value.sign);
+    SAME(row[BRUSKELDE_VALUE_DA_EXPONENT], value.exponent);
+    SAME(row[BRUSKELDE_VALUE_DA_MANTISSA_LEN_MINUS1], value.length_minus1);
+    SAME(row[BRUSKELDE_VALUE_DA_MANTISSA], value.mantissa);
     SAME(row[BRUSKELDE_VALUE_STATE], 2);
     SAME(row[BRUSKELDE_VALUE_BITS], value.sign << 63 | (value.exponent + 992) << 52 | fraction);
 }
@@ -438,10 +438,10 @@ static void check_depth(unsigned present)
     static const struct {
         int flag, place;
     } four[] = {
-        {BRUSKELDE_177_Z_NEAR_FLAG, BRUSKELDE_177_Z_NEAR},
-        {BRUSKELDE_177_Z_FAR_FLAG, BRUSKELDE_177_Z_FAR},
-        {BRUSKELDE_177_D_MIN_FLAG, BRUSKELDE_177_D_MIN},
-        {BRUSKELDE_177_D_MAX_FLAG, BRUSKELDE_177_D_MAX},
+        {BRUSKELDE_Z_NEAR_FLAG, BRUSKELDE_Z_NEAR},
+        {BRUSKELDE_Z_FAR_FLAG, BRUSKELDE_Z_FAR},
+        {BRUSKELDE_D_MIN_FLAG, BRUSKELDE_D_MIN},
+        {BRUSKELDE_D_MAX_FLAG, BRUSKELDE_D_MAX},
     };
     struct value values[4];
     memset(&payload, 0, sizeof payload);
@@ -457,8 +457,8 @@ static void check_depth(unsigned present)
     put_golomb(12);
     put_tail();
     const uint64_t *row = row_of(BRUSKELDE_DEPTH, payload.bytes, payload.bits / 8);
-    SAME(row[BRUSKELDE_177_TYPE], 3);
-    SAME(row[BRUSKELDE_177_REFERENCE_VIEW], (present & 3) != 0 ? 7u : 0u);
+    SAME(row[BRUSKELDE_DEPTH_REPRESENTATION_TYPE], 3);
+    SAME(row[BRUSKELDE_DISPARITY_REF_VIEW_ID], (present & 3) != 0 ? 7u : 0u);
     for (int i = 0; i < 4; i++) {
         SAME(row[four[i].flag], present >> (3 - i) & 1);
         if ((present >> (3 - i) & 1) != 0)
@@ -466,10 +466,10 @@ static void check_depth(unsigned present)
         else
             SAME(row[four[i].place + BRUSKELDE_VALUE_STATE], 0);
     }
-    SAME(row[BRUSKELDE_177_COUNT], 2);
-    SAME(row[BRUSKELDE_177_LIST], 11);
-    SAME(row[BRUSKELDE_177_LIST + 1], 12);
-    SAME(row[BRUSKELDE_177_LIST + BRUSKELDE_MOST_LISTED - 1], 0);
+    SAME(row[BRUSKELDE_DEPTH_COUNT], 2);
+    SAME(row[BRUSKELDE_DEPTH_NONLINEAR_REPRESENTATION_MODEL], 11);
+    SAME(row[BRUSKELDE_DEPTH_NONLINEAR_REPRESENTATION_MODEL + 1], 12);
+    SAME(row[BRUSKELDE_DEPTH_NONLINEAR_REPRESENTATION_MODEL + BRUSKELDE_MOST_LISTED - 1], 0);
 }
 
 static void check_user_data(void)
@@ -477,11 +477,11 @@ static void check_user_data(void)
     static const uint8_t registered[] = {255, 9};
     static const uint8_t unregistered[] = {21, 22, 23, 24, 25, 26, 27, 28, 29, 30, 31, 32, 33, 34, 35, 36};
     const uint64_t *row = row_of(BRUSKELDE_REGISTERED, registered, sizeof registered);
-    SAME(row[BRUSKELDE_4_COUNTRY_CODE], 255);
-    SAME(row[BRUSKELDE_4_EXTENSION_BYTE], 9);
+    SAME(row[BRUSKELDE_ITU_T_T35_COUNTRY_CODE], 255);
+    SAME(row[BRUSKELDE_ITU_T_T35_COUNTRY_CODE_EXTENSION_BYTE], 9);
     row = row_of(BRUSKELDE_UNREGISTERED, unregistered, sizeof unregistered);
     for (int i = 0; i < 16; i++)
-        SAME(row[BRUSKELDE_5_IDENTIFIER + i], unregistered[i]);
+        SAME(row[BRUSKELDE_UUID_ISO_IEC_11578 + i], unregistered[i]);
 }
 
 /* ---- null with a length of 0 */

@@ -2,27 +2,13 @@
 -- Assumes nothing.
 use Prim.Native.Nat.{ℕ}
 use mathlib.Core.Path.{_≡_, refl, sym, _∙_}
-use Rattle.bits.specs.declared.refusal.Refusal.{Refusal}
 use Rattle.format.specs.Whole.{Reading, taken, setAside, refused}
 use Rattle.answers.specs.Listed.{Record, zeros}
-use Rattle.answers.specs.Answer.{made, answerFor, refusedAs}
+use Rattle.answers.specs.Answer.{made, answerFor}
 use Rattle.answers.specs.declared.kind.Kind.{Kind}
-use Rattle.answers.specs.declared.kind.Kind.the-variants as kinds
 use Rattle.answers.specs.declared.Outcome.{Outcome}
 use Rattle.answers.specs.declared.Outcome.the-variants.{Taken, SetAside, Refused}
 use Rattle.answers.proofs.KindLaws.{made-kind, made-same}
-
--- a refusal of kind k comes with the zeros of k
-pub refused-plain : (k : Kind) (r : Refusal) → answerFor k (refused r) ≡ refusedAs k r
-refused-plain kinds.FramePacking r = refl
-refused-plain kinds.Orientation r = refl
-refused-plain kinds.Equirectangular r = refl
-refused-plain kinds.Rotation r = refl
-refused-plain kinds.RegionWise r = refl
-refused-plain kinds.Alpha r = refl
-refused-plain kinds.Depth r = refl
-refused-plain kinds.Registered r = refl
-refused-plain kinds.Unregistered r = refl
 
 -- ---- the parts of an answer
 

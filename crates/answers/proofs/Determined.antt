@@ -14,12 +14,14 @@ use Rattle.answers.proofs.Answer.unknown.Kinds as unknown-kinds
 use Rattle.answers.proofs.Answer.unknown.Reads as unknown-reads
 use Rattle.answers.proofs.Answer.finished.Kinds as finished-kinds
 use Rattle.answers.proofs.Answer.finished.Reads as finished-reads
-use Rattle.answers.proofs.Answer.with_regions.Kinds as with-regions-kinds
-use Rattle.answers.proofs.Answer.with_regions.Reads as with-regions-reads
-use Rattle.answers.proofs.Answer.with_depth.Kinds as with-depth-kinds
-use Rattle.answers.proofs.Answer.with_depth.Reads as with-depth-reads
-use Rattle.answers.proofs.Answer.with_unregistered.Kinds as with-unregistered-kinds
-use Rattle.answers.proofs.Answer.with_unregistered.Reads as with-unregistered-reads
+use Rattle.answers.proofs.Answer.region_wise.Kinds as region-wise-kinds
+use Rattle.answers.proofs.Answer.region_wise.Reads as region-wise-reads
+use Rattle.answers.proofs.Answer.depth.Kinds as depth-kinds
+use Rattle.answers.proofs.Answer.depth.Reads as depth-reads
+use Rattle.answers.proofs.Answer.registered.Kinds as registered-kinds
+use Rattle.answers.proofs.Answer.registered.Reads as registered-reads
+use Rattle.answers.proofs.Answer.unregistered.Kinds as unregistered-kinds
+use Rattle.answers.proofs.Answer.unregistered.Reads as unregistered-reads
 
 pub named-determined : Determines 0 named-kinds.ps named-kinds.r named-reads.Post
 named-determined κs a x y s t p q = p ∙ sym q
@@ -39,11 +41,14 @@ unknown-determined κs a x y s t p q = p ∙ sym q
 pub finished-determined : Determines 0 finished-kinds.ps finished-kinds.r finished-reads.Post
 finished-determined κs a x y s t p q = p ∙ sym q
 
-pub with-regions-determined : Determines 0 with-regions-kinds.ps with-regions-kinds.r with-regions-reads.Post
-with-regions-determined κs a x y s t p q = p ∙ sym q
+pub region-wise-determined : Determines 0 region-wise-kinds.ps region-wise-kinds.r region-wise-reads.Post
+region-wise-determined κs a x y s t p q = p ∙ sym q
 
-pub with-depth-determined : Determines 0 with-depth-kinds.ps with-depth-kinds.r with-depth-reads.Post
-with-depth-determined κs a x y s t p q = p ∙ sym q
+pub depth-determined : Determines 0 depth-kinds.ps depth-kinds.r depth-reads.Post
+depth-determined κs a x y s t p q = p ∙ sym q
 
-pub with-unregistered-determined : Determines 0 with-unregistered-kinds.ps with-unregistered-kinds.r with-unregistered-reads.Post
-with-unregistered-determined κs a x y s t p q = p ∙ sym q
+pub registered-determined : Determines 0 registered-kinds.ps registered-kinds.r registered-reads.Post
+registered-determined κs a x y s t p q = p ∙ sym q
+
+pub unregistered-determined : Determines 0 unregistered-kinds.ps unregistered-kinds.r unregistered-reads.Post
+unregistered-determined κs a x y s t p q = p ∙ sym q

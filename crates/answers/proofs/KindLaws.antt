@@ -1,4 +1,5 @@
--- The nine kinds by their numbers: a number names a kind exactly where it is the kind's own, and an answer is of one kind, with one record.
+-- All that is shown kind by kind: a number names a kind exactly where it is the kind's own; an answer is of one kind, with one record; a refusal
+-- comes with the kind's zeros; a record loses nothing of its message; and only kinds 4 and 5 have a rest.
 -- Assumes nothing.
 use Prim.Native.Nat.{ℕ}
 use mathlib.Core.Path.{_≡_, refl, sym, ap, _∙_}
@@ -8,8 +9,20 @@ use mathlib.Core.List.{List, [], _∷_}
 use native.Mathlib.Omega.{arith}
 use borrow.Author.Tests.{eqb-true}
 use lib.Dec.{eqb}
-use Rattle.answers.specs.Listed.{Record, number, nine, namedIn, named}
-use Rattle.answers.specs.Answer.{messageOf, made}
+use Rattle.bits.specs.declared.refusal.Refusal.{Refusal}
+use Rattle.format.specs.Faithful.{Faithful}
+use Rattle.format.specs.Whole.{refused}
+use Rattle.kind_frame_packing.proofs.Faithful as frame-packing
+use Rattle.kind_orientation.proofs.Faithful as orientation
+use Rattle.kind_equirectangular.proofs.Faithful as equirectangular
+use Rattle.kind_rotation.proofs.Faithful as rotation
+use Rattle.kind_region_wise.proofs.Faithful as region-wise
+use Rattle.kind_alpha.proofs.Faithful as alpha
+use Rattle.kind_depth.proofs.Faithful as depth
+use Rattle.kind_user_data.proofs.Faithful as user-data
+use Rattle.answers.specs.Listed.{Record, listing, form, number, listedKinds, namedIn, named}
+use Rattle.answers.specs.Answer.{messageOf, made, answerFor, refusedAs}
+use Rattle.answers.specs.declared.Rest.the-variants.{Nowhere}
 use Rattle.answers.specs.declared.kind.Kind.{Kind}
 use Rattle.answers.specs.declared.kind.Kind.the-variants as kinds
 use Rattle.answers.specs.declared.kind.Named.{Named}
@@ -50,7 +63,7 @@ listed-in (j ∷ ks) n {k} e = go (eqb n (number j)) refl (listed-in ks n) e
 module _ (n : ℕ) where
   pub named-iff : (k : Kind) → (named n ≡ Listed k) ↔ (n ≡ number k)
   unfolding named
-  named-iff k = (listed-in nine n, λ e. ap named e ∙ named-of k)
+  named-iff k = (listed-in listedKinds n, λ e. ap named e ∙ named-of k)
 
   pub unnamed-iff : (named n ≡ Unlisted) ↔ ((k : Kind) → n ≢ number k)
   unnamed-iff = (apart, none)
@@ -98,11 +111,54 @@ made-record kinds.FramePacking o p a b e f h = let m : message.FramePacking a �
 made-record kinds.Orientation o p a b e f h = let m : message.Orientation a ≡ message.Orientation b = ap (λ (x : Answer). x .message) h in cc
 made-record kinds.Equirectangular o p a b e f h = let m : message.Equirectangular a ≡ message.Equirectangular b = ap (λ (x : Answer). x .message) h in cc
 made-record kinds.Rotation o p a b e f h = let m : message.Rotation a ≡ message.Rotation b = ap (λ (x : Answer). x .message) h in cc
-made-record kinds.RegionWise o p a b e f h = ap (λ (x : Answer). x .regions) h
+made-record kinds.RegionWise o p a b e f h = ap (λ (x : Answer). x .beside .«region_wise») h
 made-record kinds.Alpha o p a b e f h = let m : message.Alpha a ≡ message.Alpha b = ap (λ (x : Answer). x .message) h in cc
-made-record kinds.Depth o p a b e f h = ap (λ (x : Answer). x .depth) h
+made-record kinds.Depth o p a b e f h = ap (λ (x : Answer). x .beside .depth) h
 made-record kinds.Registered o p a b e f h = let m : message.Registered a ≡ message.Registered b = ap (λ (x : Answer). x .message) h in cc
-made-record kinds.Unregistered o p a b e f h = ap (λ (x : Answer). x .unregistered) h
+made-record kinds.Unregistered o p a b e f h = ap (λ (x : Answer). x .beside .unregistered) h
 
 pub made-same : (k : Kind) (o p : Outcome) (a b : Record k) (e f : ℕ) → made k o a e ≡ made k p b f → (o ≡ p) × (a ≡ b) × (e ≡ f)
 made-same k o p a b e f h = (ap (λ (x : Answer). x .outcome) h, made-record k o p a b e f h, ap (λ (x : Answer). x .extension) h)
+
+-- a refusal of kind k comes with the zeros of k
+pub refused-plain : (k : Kind) (r : Refusal) → answerFor k (refused r) ≡ refusedAs k r
+refused-plain kinds.FramePacking r = refl
+refused-plain kinds.Orientation r = refl
+refused-plain kinds.Equirectangular r = refl
+refused-plain kinds.Rotation r = refl
+refused-plain kinds.RegionWise r = refl
+refused-plain kinds.Alpha r = refl
+refused-plain kinds.Depth r = refl
+refused-plain kinds.Registered r = refl
+refused-plain kinds.Unregistered r = refl
+
+-- ---- a record loses nothing of its message
+
+pub faithful : (k : Kind) → Faithful (form k .table)
+faithful kinds.FramePacking = frame-packing.faithful
+faithful kinds.Orientation = orientation.faithful
+faithful kinds.Equirectangular = equirectangular.faithful
+faithful kinds.Rotation = rotation.faithful
+faithful kinds.RegionWise = region-wise.faithful
+faithful kinds.Alpha = alpha.faithful
+faithful kinds.Depth = depth.faithful
+faithful kinds.Registered = user-data.registered-faithful
+faithful kinds.Unregistered = user-data.unregistered-faithful
+
+-- ---- which kinds have a rest
+
+pub data RestOf : Kind → Type 0 where
+  registered : RestOf kinds.Registered
+  unregistered : RestOf kinds.Unregistered
+  neither : {k : Kind} → ((a : Record k) → listing k .rest a ≡ Nowhere) → RestOf k
+
+pub rest-of : (k : Kind) → RestOf k
+rest-of kinds.FramePacking = neither (λ a. refl)
+rest-of kinds.Orientation = neither (λ a. refl)
+rest-of kinds.Equirectangular = neither (λ a. refl)
+rest-of kinds.Rotation = neither (λ a. refl)
+rest-of kinds.RegionWise = neither (λ a. refl)
+rest-of kinds.Alpha = neither (λ a. refl)
+rest-of kinds.Depth = neither (λ a. refl)
+rest-of kinds.Registered = registered
+rest-of kinds.Unregistered = unregistered

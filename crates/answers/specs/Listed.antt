@@ -1,89 +1,135 @@
--- The nine kinds of RULES 4: number, record, and how a payload of the kind is read as a whole.
+-- The kinds of RULES 4: number, record, how a payload of the kind is read as a whole, and what an answer has of its record.
 use Prim.Native.Nat.{ℕ}
 use mathlib.Core.Bool.{Bool, true, false, cond}
 use mathlib.Core.List.{List, [], _∷_}
 use lib.Dec.{eqb}
 use Rattle.bits.specs.Bits.{bitsOf}
-use Rattle.format.specs.Whole.{Form, Reading, whole}
-use Rattle.frame_packing.specs.declared.FramePacking.{FramePacking}
-use Rattle.frame_packing.specs.FramePacking as frame-packing
-use Rattle.aside.specs.SetAside.{setAside}
-use Rattle.orientation.specs.declared.Orientation.{Orientation}
-use Rattle.orientation.specs.Orientation as orientations
-use Rattle.equirectangular.specs.declared.Equirectangular.{Equirectangular}
-use Rattle.equirectangular.specs.Equirectangular as equirectangulars
-use Rattle.rotation.specs.declared.Rotation.{Rotation}
-use Rattle.rotation.specs.Rotation as rotations
-use Rattle.regions.specs.declared.Packing.{Packing}
-use Rattle.regions.specs.Packing as packings
-use Rattle.alpha.specs.declared.Alpha.{Alpha}
-use Rattle.alpha.specs.Alpha as alphas
-use Rattle.depth.specs.declared.Depth.{Depth}
-use Rattle.depth.specs.Depth as depths
-use Rattle.user_data.specs.declared.registered.Registered.{Registered}
-use Rattle.user_data.specs.Registered as registereds
-use Rattle.user_data.specs.declared.unregistered.Unregistered.{Unregistered}
-use Rattle.user_data.specs.Unregistered as unregistereds
+use Rattle.format.specs.Format.{Format}
+use Rattle.format.specs.Format as format
+use Rattle.format.specs.Form.{Form}
+use Rattle.format.specs.Whole.{Reading, whole}
+use Rattle.kind_frame_packing.specs.declared.FramePacking.{FramePacking}
+use Rattle.kind_frame_packing.specs.FramePacking as frame-packing
+use Rattle.kind_frame_packing.specs.SetAside.{setAside}
+use Rattle.kind_orientation.specs.declared.Orientation.{Orientation}
+use Rattle.kind_orientation.specs.Orientation as orientation
+use Rattle.kind_equirectangular.specs.declared.Equirectangular.{Equirectangular}
+use Rattle.kind_equirectangular.specs.Equirectangular as equirectangular
+use Rattle.kind_rotation.specs.declared.Rotation.{Rotation}
+use Rattle.kind_rotation.specs.Rotation as rotation
+use Rattle.kind_region_wise.specs.declared.RegionWise.{RegionWise}
+use Rattle.kind_region_wise.specs.RegionWise as region-wise
+use Rattle.kind_alpha.specs.declared.Alpha.{Alpha}
+use Rattle.kind_alpha.specs.Alpha as alpha
+use Rattle.kind_depth.specs.declared.Depth.{Depth}
+use Rattle.kind_depth.specs.Depth as depth
+use Rattle.kind_user_data.specs.declared.registered.Registered.{Registered}
+use Rattle.kind_user_data.specs.Registered as registered
+use Rattle.kind_user_data.specs.declared.unregistered.Unregistered.{Unregistered}
+use Rattle.kind_user_data.specs.Unregistered as unregistered
 use Rattle.answers.specs.declared.kind.Kind.{Kind}
 use Rattle.answers.specs.declared.kind.Kind.the-variants as kinds
 use Rattle.answers.specs.declared.kind.Named.{Named}
 use Rattle.answers.specs.declared.kind.Named.the-variants.{Listed, Unlisted}
-
-abbrev pub number : Kind → ℕ
-number kinds.FramePacking = 45
-number kinds.Orientation = 47
-number kinds.Equirectangular = 150
-number kinds.Rotation = 154
-number kinds.RegionWise = 155
-number kinds.Alpha = 165
-number kinds.Depth = 177
-number kinds.Registered = 4
-number kinds.Unregistered = 5
+use Rattle.answers.specs.declared.Beside.{Beside}
+use Rattle.answers.specs.declared.Message.{Message}
+use Rattle.answers.specs.declared.Message.the-variants as message
+use Rattle.answers.specs.declared.Rest.{Rest}
+use Rattle.answers.specs.declared.Rest.the-variants.{From, Nowhere}
 
 abbrev pub Record : Kind → Type 0
 Record kinds.FramePacking = FramePacking
 Record kinds.Orientation = Orientation
 Record kinds.Equirectangular = Equirectangular
 Record kinds.Rotation = Rotation
-Record kinds.RegionWise = Packing
+Record kinds.RegionWise = RegionWise
 Record kinds.Alpha = Alpha
 Record kinds.Depth = Depth
 Record kinds.Registered = Registered
 Record kinds.Unregistered = Unregistered
 
-abbrev pub zeros : (k : Kind) → Record k
-zeros kinds.FramePacking = frame-packing.zeros
-zeros kinds.Orientation = orientations.zeros
-zeros kinds.Equirectangular = equirectangulars.zeros
-zeros kinds.Rotation = rotations.zeros
-zeros kinds.RegionWise = packings.zeros
-zeros kinds.Alpha = alphas.zeros
-zeros kinds.Depth = depths.zeros
-zeros kinds.Registered = registereds.zeros
-zeros kinds.Unregistered = unregistereds.zeros
+-- What is listed of a kind: its number; how its payloads are formed; its record of zeros; and, of a record that was taken, the message, the record
+-- that stands beside it, and where the rest of the payload begins.
+pub record Listing (A : Type 0) : Type 0 where
+  pub number : ℕ
+  pub form : Form A
+  pub zero : A
+  pub message : A → Message
+  pub beside : A → Beside
+  pub rest : A → Rest
+
+-- nothing stands beside the message
+abbrev pub nothing : Beside
+nothing = record { «region_wise» = format.zeros region-wise.table; depth = format.zeros depth.table; unregistered = format.zeros unregistered.table }
 
 -- no message of most kinds is set aside
 abbrev pub never : {A : Type 0} → A → Bool
 never a = false
 
+-- most kinds: a tail can follow, nothing stands beside the message, and the payload has no rest
+abbrev pub plainly : {A : Type 0} → ℕ → Format A A → (A → Bool) → A → (A → Message) → Listing A
+plainly n table aside zero m =
+    record { number = n; form = record { table = table; tailed = true; aside = aside }; zero = zero; message = m; beside = λ a. nothing; rest = λ a. Nowhere }
+
 -- kinds 4 and 5 run to the end of the payload and have no tail; only messages of kind 45 are set aside
+abbrev pub listing : (k : Kind) → Listing (Record k)
+listing kinds.FramePacking = plainly 45 frame-packing.framePacking setAside (format.zeros frame-packing.table) message.FramePacking
+listing kinds.Orientation = plainly 47 orientation.orientation never (format.zeros orientation.table) message.Orientation
+listing kinds.Equirectangular = plainly 150 equirectangular.equirectangular never (format.zeros equirectangular.table) message.Equirectangular
+listing kinds.Rotation = plainly 154 rotation.rotation never (format.zeros rotation.table) message.Rotation
+listing kinds.RegionWise =
+    record {
+      number = 155;
+      form = record { table = region-wise.regionWise; tailed = true; aside = never };
+      zero = nothing .«region_wise»;
+      message = λ a. message.RegionWise;
+      beside = λ a. record { «region_wise» = a; depth = nothing .depth; unregistered = nothing .unregistered };
+      rest = λ a. Nowhere;
+    }
+listing kinds.Alpha = plainly 165 alpha.alpha never (format.zeros alpha.table) message.Alpha
+listing kinds.Depth =
+    record {
+      number = 177;
+      form = record { table = depth.depth; tailed = true; aside = never };
+      zero = nothing .depth;
+      message = λ a. message.Depth;
+      beside = λ a. record { «region_wise» = nothing .«region_wise»; depth = a; unregistered = nothing .unregistered };
+      rest = λ a. Nowhere;
+    }
+listing kinds.Registered =
+    record {
+      number = 4;
+      form = record { table = registered.registered; tailed = false; aside = never };
+      zero = format.zeros registered.table;
+      message = message.Registered;
+      beside = λ a. nothing;
+      rest = λ a. From (registered.headBytes a);
+    }
+listing kinds.Unregistered =
+    record {
+      number = 5;
+      form = record { table = unregistered.unregistered; tailed = false; aside = never };
+      zero = nothing .unregistered;
+      message = λ a. message.Unregistered;
+      beside = λ a. record { «region_wise» = nothing .«region_wise»; depth = nothing .depth; unregistered = a };
+      rest = λ a. From 16;
+    }
+
+abbrev pub number : Kind → ℕ
+number k = listing k .number
+
 abbrev pub form : (k : Kind) → Form (Record k)
-form kinds.FramePacking = record { table = frame-packing.framePacking; tailed = true; aside = setAside }
-form kinds.Orientation = record { table = orientations.orientation; tailed = true; aside = never }
-form kinds.Equirectangular = record { table = equirectangulars.equirectangular; tailed = true; aside = never }
-form kinds.Rotation = record { table = rotations.rotation; tailed = true; aside = never }
-form kinds.RegionWise = record { table = packings.packing; tailed = true; aside = never }
-form kinds.Alpha = record { table = alphas.alpha; tailed = true; aside = never }
-form kinds.Depth = record { table = depths.depth; tailed = true; aside = never }
-form kinds.Registered = record { table = registereds.registered; tailed = false; aside = never }
-form kinds.Unregistered = record { table = unregistereds.unregistered; tailed = false; aside = never }
+form k = listing k .form
+
+abbrev pub zeros : (k : Kind) → Record k
+zeros k = listing k .zero
 
 -- what reading a payload of kind k comes to
 unfoldable pub readingOf : (k : Kind) → List ℕ → Reading (Record k)
 readingOf k s = whole (form k) (bitsOf s)
 
-abbrev pub nine : List Kind
-nine =
+abbrev pub listedKinds : List Kind
+listedKinds =
     kinds.FramePacking
     ∷ kinds.Orientation
     ∷ kinds.Equirectangular
@@ -102,4 +148,4 @@ namedIn (k ∷ ks) n = cond (eqb n (number k)) (Listed k) (namedIn ks n)
 
 -- the kind that a number names, if it names one
 unfoldable pub named : ℕ → Named
-named n = namedIn nine n
+named n = namedIn listedKinds n

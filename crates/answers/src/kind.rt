@@ -1,4 +1,4 @@
-// The nine kinds, and the numbers that name them.
+// The kinds, and the numbers that name them.
 ghost use mathlib.Core.Path.{_≡_};
 ghost use Rattle.answers.specs.Listed.{named};
 

@@ -2,20 +2,20 @@
 pub mod kind;
 
 use crate::kind::Kind;
-use alpha::Alpha;
 use bits::ending::Ending;
 use bits::refusal::Refusal;
-use depth::Depth;
-use equirectangular::Equirectangular;
-use frame_packing::FramePacking;
-use orientation::Orientation;
-use regions::Packing;
-use rotation::Rotation;
-use user_data::registered::Registered;
-use user_data::unregistered::Unregistered;
+use kind_alpha::Alpha;
+use kind_depth::Depth;
+use kind_equirectangular::Equirectangular;
+use kind_frame_packing::FramePacking;
+use kind_orientation::Orientation;
+use kind_region_wise::RegionWise;
+use kind_rotation::Rotation;
+use kind_user_data::registered::Registered;
+use kind_user_data::unregistered::Unregistered;
 ghost use mathlib.Core.Path.{_≡_};
 ghost use Rattle.format.specs.Whole.{ended};
-ghost use Rattle.answers.specs.Listed.{never};
+ghost use Rattle.answers.specs.Listed.{never, nothing};
 ghost use Rattle.answers.specs.Answer.{outcomeNumber, plain, made, answerFor, finished, refusedAs, zeroMessage, unknown};
 
 pub enum Outcome {
@@ -71,31 +71,52 @@ impl Message {
     }
 }
 
-// On a refusal the message and the records beside it are zeros; a record beside it is zeros where the message is of another kind.
-pub struct Answer {
-    pub outcome: Outcome,
-    pub message: Message,
-    pub extension: u32,
-    pub regions: Packing,
+// The byte at which the rest of a payload of kind 4 or 5 begins.
+pub enum Rest {
+    From(usize),
+    Nowhere,
+}
+
+// The records that hold an array, each zeros where the message is of another kind.
+pub struct Beside {
+    pub region_wise: RegionWise,
     pub depth: Depth,
     pub unregistered: Unregistered,
 }
 
+impl Beside {
+    fn nothing() -> Beside
+        ensures { λ r. ⌜ r ≡ nothing ⌝ }
+    {
+        Beside {
+            region_wise: RegionWise::zero(),
+            depth: Depth::zero(),
+            unregistered: Unregistered::zero(),
+        }
+    }
+}
+
+// On a refusal the message and the records beside it are zeros, and there is no rest.
+pub struct Answer {
+    pub outcome: Outcome,
+    pub message: Message,
+    pub extension: u32,
+    pub rest: Rest,
+    pub beside: Beside,
+}
+
 impl Answer {
-    // With zeros beside the message.
+    // With zeros beside the message, and no rest.
     pub fn plain(outcome: Outcome, message: Message, extension: u32) -> Answer
         ensures { λ r. ⌜ r ≡ plain outcome message extension ⌝ }
     {
-        let regions = Packing::zero();
-        let depth = Depth::zero();
-        let unregistered = Unregistered::zero();
+        let beside = Beside::nothing();
         Answer {
             outcome,
             message,
             extension,
-            regions,
-            depth,
-            unregistered,
+            rest: Rest::Nowhere,
+            beside,
         }
     }
 
@@ -106,7 +127,7 @@ impl Answer {
         Answer::plain(Outcome::Refused(why), Message::zero(kind), 0)
     }
 
-    // The refusal of a kind that is none of the nine: there are no fields.
+    // The refusal of a kind that is none of those listed: there are no fields.
     pub fn unknown() -> Answer
         ensures { λ r. ⌜ r ≡ unknown ⌝ }
     {
@@ -124,37 +145,70 @@ impl Answer {
     }
 
     // The same for the kinds whose record stands beside the message.
-    pub fn with_regions(value: Packing, end: Ending) -> Answer
+    pub fn region_wise(value: RegionWise, end: Ending) -> Answer
         ensures { λ r. ⌜ r ≡ answerFor Kind.RegionWise (ended never value end) ⌝ }
     {
         match end {
             Ending::Extension(e) => {
-                let mut answer = Answer::plain(Outcome::Taken, Message::RegionWise, e);
-                answer.regions = value;
-                answer
+                let mut beside = Beside::nothing();
+                beside.region_wise = value;
+                Answer {
+                    outcome: Outcome::Taken,
+                    message: Message::RegionWise,
+                    extension: e,
+                    rest: Rest::Nowhere,
+                    beside,
+                }
             }
             Ending::Refused(why) => Answer::refused(Kind::RegionWise, why),
         }
     }
 
-    pub fn with_depth(value: Depth, end: Ending) -> Answer
+    pub fn depth(value: Depth, end: Ending) -> Answer
         ensures { λ r. ⌜ r ≡ answerFor Kind.Depth (ended never value end) ⌝ }
     {
         match end {
             Ending::Extension(e) => {
-                let mut answer = Answer::plain(Outcome::Taken, Message::Depth, e);
-                answer.depth = value;
-                answer
+                let mut beside = Beside::nothing();
+                beside.depth = value;
+                Answer {
+                    outcome: Outcome::Taken,
+                    message: Message::Depth,
+                    extension: e,
+                    rest: Rest::Nowhere,
+                    beside,
+                }
             }
             Ending::Refused(why) => Answer::refused(Kind::Depth, why),
         }
     }
 
-    pub fn with_unregistered(value: Unregistered) -> Answer
+    // Kinds 4 and 5: what follows the head is the payload's rest.
+    pub fn registered(value: Registered) -> Answer
+        ensures { λ r. ⌜ r ≡ made Kind.Registered Outcome.Taken value 0 ⌝ }
+    {
+        let head = value.head_bytes();
+        let beside = Beside::nothing();
+        Answer {
+            outcome: Outcome::Taken,
+            message: Message::Registered(value),
+            extension: 0,
+            rest: Rest::From(head),
+            beside,
+        }
+    }
+
+    pub fn unregistered(value: Unregistered) -> Answer
         ensures { λ r. ⌜ r ≡ made Kind.Unregistered Outcome.Taken value 0 ⌝ }
     {
-        let mut answer = Answer::plain(Outcome::Taken, Message::Unregistered, 0);
-        answer.unregistered = value;
-        answer
+        let mut beside = Beside::nothing();
+        beside.unregistered = value;
+        Answer {
+            outcome: Outcome::Taken,
+            message: Message::Unregistered,
+            extension: 0,
+            rest: Rest::From(16),
+            beside,
+        }
     }
 }

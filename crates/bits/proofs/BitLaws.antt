@@ -13,7 +13,7 @@ use lib.Seq.{getD-take, length-take-le}
 use lib.Pow.{pow-add, pow-mono}
 use lib.Dec.{ltb, eqb}
 use borrow.Author.Tests.{ltb-true, ltb-false}
-use Rattle.bits.specs.Bits.{bitsIn, bitAt, part, from, bitsOf, digit, number}
+use Rattle.bits.specs.Bits.{bitsIn, bitAt, part, from, bitsOf, digit, unsignedOf}
 
 -- of two numbers the first is below the second, or not
 pub below : (a b : ℕ) → (a < b) ⊎ (b ≤ a)
@@ -41,15 +41,15 @@ digit-zero false e = refl
 digit-zero true e = absurd (e refl)
 
 -- bits one after the other
-pub number-append : (v w : List Bool) → number (v ++ w) ≡ number v * 2 ^ length w + number w
-unfolding number
+pub number-append : (v w : List Bool) → unsignedOf (v ++ w) ≡ unsignedOf v * 2 ^ length w + unsignedOf w
+unfolding unsignedOf
 number-append [] w = omega arith
 number-append (b ∷ v) w =
-    rw (number-append v w, length-append v w, pow-add 2 (length v) (length w), ← (mul-assoc (digit b) (2 ^ length v) (2 ^ length w)), ← (add-assoc (digit b * 2 ^ length v * 2 ^ length w) (number v * 2 ^ length w) (number w)), ← (add-mul (digit b * 2 ^ length v) (number v) (2 ^ length w)))
+    rw (number-append v w, length-append v w, pow-add 2 (length v) (length w), ← (mul-assoc (digit b) (2 ^ length v) (2 ^ length w)), ← (add-assoc (digit b * 2 ^ length v * 2 ^ length w) (unsignedOf v * 2 ^ length w) (unsignedOf w)), ← (add-mul (digit b * 2 ^ length v) (unsignedOf v) (2 ^ length w)))
 
 -- n bits make a number below 2 ^ n
-pub number-lt : (w : List Bool) → number w < 2 ^ length w
-unfolding number
+pub number-lt : (w : List Bool) → unsignedOf w < 2 ^ length w
+unfolding unsignedOf
 number-lt [] = omega arith
 number-lt (false ∷ w) = rw pow-suc (omega (arith, number-lt w))
 number-lt (true ∷ w) = rw pow-suc (omega (arith, number-lt w))
@@ -79,16 +79,16 @@ drop-part s p (suc n) zero = rw zero-sub
 drop-part s p (suc n) (suc m) = rw (suc-sub-suc, add-suc, ← (suc-add p n)) (drop-part s (suc p) n m)
 
 -- n bits fit k where n is at most k
-pub part-fits : (s : List ℕ) (p n k : ℕ) → n ≤ k → number (part s p n) < 2 ^ k
+pub part-fits : (s : List ℕ) (p n k : ℕ) → n ≤ k → unsignedOf (part s p n) < 2 ^ k
 part-fits s p n k h = lt-of-lt-of-le (rw (length-part s p n) at (number-lt (part s p n))) (pow-mono h)
 
-one-bit : (s : List ℕ) (q x : ℕ) → x * 2 ^ length (part s q 1) + number (part s q 1) ≡ x * 2 + digit (bitAt s q)
-unfolding part number
+one-bit : (s : List ℕ) (q x : ℕ) → x * 2 ^ length (part s q 1) + unsignedOf (part s q 1) ≡ x * 2 + digit (bitAt s q)
+unfolding part unsignedOf
 one-bit s q x = omega arith
 
 -- one bit more
-pub number-next : (s : List ℕ) (p n : ℕ) → number (part s p (n + 1)) ≡ number (part s p n) * 2 + digit (bitAt s (p + n))
-number-next s p n = rw (part-add s p n 1, number-append (part s p n) (part s (p + n) 1)) (one-bit s (p + n) (number (part s p n)))
+pub number-next : (s : List ℕ) (p n : ℕ) → unsignedOf (part s p (n + 1)) ≡ unsignedOf (part s p n) * 2 + digit (bitAt s (p + n))
+number-next s p n = rw (part-add s p n 1, number-append (part s p n) (part s (p + n) 1)) (one-bit s (p + n) (unsignedOf (part s p n)))
 
 -- ---- all bits from a position on
 

@@ -11,8 +11,8 @@ use denote.Triple.Clauses.{AtExit}
 use borrow.Fn.Kinds.{PK, RK, Dens, resT, endedOf}
 use borrow.Fn.Kinds as kinds
 use Rattle.bits.specs.Out.{Out, taken, refused}
-use Rattle.bits.specs.Refusals.{numberOf}
-use Rattle.bits.specs.Answers.{answer, byteAnswer, wordAnswer}
+use Rattle.bits.specs.Refusals.{refusalNumber}
+use Rattle.bits.specs.Answers.{readOut, byteOut, wordOut}
 use Rattle.bits.specs.declared.cursor.Cursor.{Cursor}
 use Rattle.bits.specs.declared.refusal.Refusal.{Refusal}
 use Rattle.bits.specs.declared.refusal.Refusal.the-variants.{Kind, Size, Short, Zeros, Rule, Regions, Tail, Slot, Table, Rows}
@@ -105,21 +105,21 @@ pub told : {R A : Type 0} (meaning : R → Out A) (value : A → Cursor → R) (
     → r ≡ t
 told meaning value refuse = told-by meaning (made value refuse)
 
-had : (r : Read) → made Value Refused (answer r) ≡ r
+had : (r : Read) → made Value Refused (readOut r) ≡ r
 had (Value v c) = refl
 had (Refused r) = refl
 
-pub read-told : (r t : Read) → answer r ≡ answer t → r ≡ t
-read-told = told answer Value Refused had
+pub read-told : (r t : Read) → readOut r ≡ readOut t → r ≡ t
+read-told = told readOut Value Refused had
 
-byte-had : (r : ByteRead) → made byte.Value byte.Refused (byteAnswer r) ≡ r
+byte-had : (r : ByteRead) → made byte.Value byte.Refused (byteOut r) ≡ r
 byte-had (byte.Value v c) = refl
 byte-had (byte.Refused r) = refl
 
-pub byte-told : (r t : ByteRead) → byteAnswer r ≡ byteAnswer t → r ≡ t
-byte-told = told byteAnswer byte.Value byte.Refused byte-had
+pub byte-told : (r t : ByteRead) → byteOut r ≡ byteOut t → r ≡ t
+byte-told = told byteOut byte.Value byte.Refused byte-had
 
-word-had : (r : WordRead) → made word.Value word.Refused (wordAnswer r) ≡ r
+word-had : (r : WordRead) → made word.Value word.Refused (wordOut r) ≡ r
 word-had (word.Value v c) = refl
 word-had (word.Refused r) = refl
 
@@ -127,7 +127,7 @@ word-had (word.Refused r) = refl
 refusals : List Refusal
 refusals = Kind ∷ Size ∷ Short ∷ Zeros ∷ Rule ∷ Regions ∷ Tail ∷ Slot ∷ Table ∷ Rows ∷ []
 
-numbered : (r : Refusal) → getD refusals (numberOf r - 1) Kind ≡ r
+numbered : (r : Refusal) → getD refusals (refusalNumber r - 1) Kind ≡ r
 unfolding refusals
 numbered Kind = refl
 numbered Size = refl
@@ -140,8 +140,8 @@ numbered Slot = refl
 numbered Table = refl
 numbered Rows = refl
 
-pub refusal-told : (r t : Refusal) → numberOf r ≡ numberOf t → r ≡ t
-refusal-told = told-by numberOf (λ n. getD refusals (n - 1) Kind) numbered
+pub refusal-told : (r t : Refusal) → refusalNumber r ≡ refusalNumber t → r ≡ t
+refusal-told = told-by refusalNumber (λ n. getD refusals (n - 1) Kind) numbered
 
 -- ---- the public functions
 
@@ -152,7 +152,7 @@ pub byte-determined : Determines 1 byte-kinds.ps byte-kinds.r byte-reads.Post
 byte-determined κs a x y s t p q = byte-told x y (p ∙ sym q)
 
 pub word-determined : Determines 1 word-kinds.ps word-kinds.r word-reads.Post
-word-determined κs a x y s t p q = told wordAnswer word.Value word.Refused word-had x y (p ∙ sym q)
+word-determined κs a x y s t p q = told wordOut word.Value word.Refused word-had x y (p ∙ sym q)
 
 pub ue-determined : Determines 1 ue-kinds.ps ue-kinds.r ue-reads.Post
 ue-determined κs a x y s t p q = read-told x y (p ∙ sym q)

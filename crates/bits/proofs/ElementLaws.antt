@@ -11,7 +11,7 @@ use lib.ListN.{length, take, drop}
 use lib.Seq.{length-take-le}
 use lib.Pow.{pow-pos, pow-mono}
 use borrow.Author.Tests.{le-leb, lt-leb}
-use Rattle.bits.specs.Bits.{bitsIn, bitAt, part, from, number}
+use Rattle.bits.specs.Bits.{bitsIn, bitAt, part, from, unsignedOf}
 use Rattle.bits.specs.Out.{Out, taken, refused, placed}
 use Rattle.bits.specs.Elements.{uFront, meant, ueAfter, uAt, ueAt, leading}
 use Rattle.bits.specs.declared.refusal.Refusal.the-variants.{Short, Zeros}
@@ -19,7 +19,7 @@ use Rattle.bits.proofs.BitLaws.{below, number-lt, length-from, take-fro
 
 -- ---- u(n)
 
-pub u-fits : (n : ℕ) (w : List Bool) → n ≤ length w → uFront n w ≡ taken (number (take n w)) n
+pub u-fits : (n : ℕ) (w : List Bool) → n ≤ length w → uFront n w ≡ taken (unsignedOf (take n w)) n
 unfolding uFront
 u-fits n w h = rw (le-leb _ _ h)
 
@@ -28,7 +28,7 @@ unfolding uFront
 u-breaks n w h = rw (lt-leb _ _ h)
 
 -- at bit p of a payload: the number of its n bits, or 3 where one of them lacks
-pub u-value : (s : List ℕ) (p n : ℕ) → n ≤ bitsIn s - p → uAt s p n ≡ taken (number (part s p n)) (p + n)
+pub u-value : (s : List ℕ) (p n : ℕ) → n ≤ bitsIn s - p → uAt s p n ≡ taken (unsignedOf (part s p n)) (p + n)
 unfolding uAt
 u-value s p n h = rw (u-fits n (from s p) (omega (arith, length-from s p)), take-from s p n h)
 
@@ -43,7 +43,7 @@ front-below p n w {v} {q} e = go (below (length w) n)
     go : (length w < n) ⊎ (n ≤ length w) → v < 2 ^ n
     go (inl l) = let z : _≡_ {A = ℕ} 0 1 = cc (ap (placed p) (u-breaks n w l)) in absurd (omega arith)
     go (inr l) =
-        let k : v ≡ number (take n w) = cc (ap (placed p) (u-fits n w l)) in
+        let k : v ≡ unsignedOf (take n w) = cc (ap (placed p) (u-fits n w l)) in
         rw k (rw (length-take-le n w l) at (number-lt (take n w)))
 
 pub u-below : (s : List ℕ) (p n : ℕ) {v q : ℕ} → uAt s p n ≡ taken v q → v < 2 ^ n
@@ -99,8 +99,8 @@ abbrev pub lessOne : Out ℕ → Out ℕ
 lessOne (taken x n) = taken (x - 1) n
 lessOne (refused r) = refused r
 
-first-one : (z : ℕ) (w : List Bool) → z ≤ length w → 2 ^ z - 1 + number (take z w) ≡ number (take (suc z) (true ∷ w)) - 1
-unfolding number
+first-one : (z : ℕ) (w : List Bool) → z ≤ length w → 2 ^ z - 1 + unsignedOf (take z w) ≡ unsignedOf (take (suc z) (true ∷ w)) - 1
+unfolding unsignedOf
 first-one z w h = rw (length-take-le z w h) (omega (arith, pow-pos z))
 
 -- the one and the z bits after it make one more than the meaning
@@ -137,7 +137,7 @@ ue-at-zeros s p e = ap (placed p) (ue-zeros 0 32 (from s p) (sym e))
 
 -- where the zeros end before the payload does, a one follows them
 one-follows : (k : ℕ) (w : List Bool) → leading k w < k → (n : ℕ) {x m : ℕ} → uFront (n + 1) (drop (leading k w) w) ≡ taken x m → 0 < x
-unfolding leading number
+unfolding leading unsignedOf
 one-follows zero w h n e = absurd (omega arith)
 one-follows (suc k) [] h n e = let z : _≡_ {A = ℕ} 0 1 = cc (u-breaks (n + 1) [] (omega arith)) in absurd (omega arith)
 one-follows (suc k) (false ∷ w) h n e = one-follows k w (omega arith) n e
@@ -148,7 +148,7 @@ one-follows (suc k) (true ∷ w) h n {x} {m} e = go (below (length (true ∷ w))
     go (inr l) =
         let f : n + 1 ≡ suc n = omega arith in
         let g : uFront (suc n) (true ∷ w) ≡ taken x m = rw f at e in
-        let v : x ≡ number (take (suc n) (true ∷ w)) = cc (u-fits (suc n) (true ∷ w) (omega arith)) in
+        let v : x ≡ unsignedOf (take (suc n) (true ∷ w)) = cc (u-fits (suc n) (true ∷ w) (omega arith)) in
         omega (arith, pow-pos (length (take n w)))
 
 at-front : (p : ℕ) (o : Out ℕ) {x q : ℕ} → placed p o ≡ taken x q → (m : ℕ) × (o ≡ taken x m)

@@ -3,7 +3,7 @@
 use mathlib.Core.Path.{_≡_, refl}
 use mathlib.Core.List.{[], _∷_}
 use lib.IntN.{negsuc}
-use Rattle.bits.specs.Bits.{bitAt, part, from, number}
+use Rattle.bits.specs.Bits.{bitAt, part, from, unsignedOf}
 use Rattle.bits.specs.Out.{taken, refused}
 use Rattle.bits.specs.Elements.{uFront, ueAfter, uAt, ueAt}
 use Rattle.bits.specs.Signed.{signedOf}
@@ -12,20 +12,20 @@ use Rattle.bits.specs.declared.ending.Ending.the-variants.{Extension, Re
 use Rattle.bits.specs.declared.refusal.Refusal.the-variants.{Short, Zeros, Tail}
 
 u-32 : uAt (0x40 ∷ 0x00 ∷ 0x5a ∷ 0x00 ∷ 0x01 ∷ []) 8 32 ≡ taken 0x5a0001 40
-unfolding uAt uFront from part number bitAt
+unfolding uAt uFront from part unsignedOf bitAt
 u-32 = refl
 
 -- 00 00 00 is 3, and 00 00 00 00 is 4
 ue-short : ueAt (0 ∷ 0 ∷ 0 ∷ []) 0 ≡ refused Short
-unfolding ueAt ueAfter uFront from part number bitAt
+unfolding ueAt ueAfter uFront from part unsignedOf bitAt
 ue-short = refl
 
 ue-zeros : ueAt (0 ∷ 0 ∷ 0 ∷ 0 ∷ []) 0 ≡ refused Zeros
-unfolding ueAt ueAfter uFront from part number bitAt
+unfolding ueAt ueAfter uFront from part unsignedOf bitAt
 ue-zeros = refl
 
 ue-largest : ueAt (0 ∷ 0 ∷ 0 ∷ 1 ∷ 255 ∷ 255 ∷ 255 ∷ 254 ∷ []) 0 ≡ taken 4294967294 63
-unfolding ueAt ueAfter uFront from part number bitAt
+unfolding ueAt ueAfter uFront from part unsignedOf bitAt
 ue-largest = refl
 
 -- -180 degrees, and the least number of all

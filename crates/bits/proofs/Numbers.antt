@@ -6,10 +6,12 @@ use mathlib.Core.Logic.{_↔_}
 use mathlib.Core.Bool.{Bool}
 use mathlib.Core.List.{List}
 use native.Mathlib.Omega.{arith}
-use Rattle.bits.specs.Refusals.{numberOf}
+use Rattle.bits.specs.Refusals.{refusalNumber}
 use Rattle.bits.specs.Out.{Out, taken, refused, numberIn}
-use Rattle.bits.specs.Coding.{Shape, Starts, BreaksOff, TooManyZeros, shapeFront}
-use Rattle.bits.specs.Tail.{endingNumber, tailOf, Ended}
+use Rattle.bits.specs.Coding.{Shape, Starts, BreaksOff, TooManyZeros}
+use Rattle.bits.specs.Elements.{shapeFront}
+use Rattle.bits.specs.Tail.{endingNumber, tailOf}
+use Rattle.bits.specs.Ended.{Ended}
 use Rattle.bits.specs.declared.ending.Ending.{Ending}
 use Rattle.bits.specs.declared.ending.Ending.the-variants.{Extension, Refused}
 use Rattle.bits.specs.declared.refusal.Refusal.{Refusal}
@@ -17,7 +19,7 @@ use Rattle.bits.specs.declared.refusal.Refusal.the-variants.{Kind, Size,
 use Rattle.bits.proofs.Determined.{refusal-told}
 use Rattle.bits.proofs.Reading.{front-taken, front-short, front-zeros, tail-permitted, tail-refused}
 
-pub refused-some : (r : Refusal) → (1 ≤ numberOf r) × (numberOf r ≤ 10)
+pub refused-some : (r : Refusal) → (1 ≤ refusalNumber r) × (refusalNumber r ≤ 10)
 refused-some Kind = (omega arith, omega arith)
 refused-some Size = (omega arith, omega arith)
 refused-some Short = (omega arith, omega arith)
@@ -35,7 +37,7 @@ pub number-taken : {A : Type 0} (o : Out A) → (numberIn o ≡ 0) ↔ ((a : A) 
 number-taken (taken a q) = (λ e. (a, q, refl), λ t. refl)
 number-taken (refused r) = (λ e. absurd (omega (arith, refused-some r .0)), λ t. ap numberIn (t .2))
 
-pub number-refused : {A : Type 0} (o : Out A) (r : Refusal) → (numberIn o ≡ numberOf r) ↔ (o ≡ refused r)
+pub number-refused : {A : Type 0} (o : Out A) (r : Refusal) → (numberIn o ≡ refusalNumber r) ↔ (o ≡ refused r)
 number-refused (taken a q) r = (λ e. absurd (omega (arith, refused-some r .0)), λ t. ap numberIn t)
 number-refused (refused w) r = (λ e. ap refused (refusal-told w r e), λ t. ap numberIn t)
 

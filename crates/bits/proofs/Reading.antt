@@ -11,11 +11,12 @@ use lib.ListN.{length, take, drop, replicate, length-append, length-replicate, t
 use lib.Seq.{length-take-le, take-at}
 use lib.Dec.{leb}
 use borrow.Author.Tests.{lt-leb}
-use Rattle.bits.specs.Bits.{number}
+use Rattle.bits.specs.Bits.{unsignedOf}
 use Rattle.bits.specs.Out.{Out, taken, refused}
-use Rattle.bits.specs.Elements.{uFront, meant, ueAfter}
-use Rattle.bits.specs.Coding.{Shape, bits, golomb, Starts, BreaksOff, TooManyZeros, shapeFront}
-use Rattle.bits.specs.Tail.{Last, none, at, further, lastOne, judged, tailOf, Tailed, Ended}
+use Rattle.bits.specs.Elements.{uFront, meant, ueAfter, shapeFront}
+use Rattle.bits.specs.Coding.{Shape, unsigned, expGolomb, Starts, BreaksOff, TooManyZeros}
+use Rattle.bits.specs.Tail.{Last, none, at, further, lastOne, judged, tailOf}
+use Rattle.bits.specs.Ended.{Tailed, Ended}
 use Rattle.bits.specs.declared.refusal.Refusal.{Refusal}
 use Rattle.bits.specs.declared.refusal.Refusal.the-variants.{Short, Zeros, Tail}
 use Rattle.bits.specs.declared.ending.Ending.the-variants.{Extension, Refused}
@@ -35,7 +36,7 @@ not-both e = let z : _≡_ {A = ℕ} 0 1 = cc in absurd (omega arith)
 
 -- u(n) of what is left: a value exactly where n bits are there, and 3 exactly where not
 data USeen (n : ℕ) (w : List Bool) : Type 0 where
-  there : n ≤ length w → uFront n w ≡ taken (number (take n w)) n → USeen n w
+  there : n ≤ length w → uFront n w ≡ taken (unsignedOf (take n w)) n → USeen n w
   lacks : length w < n → uFront n w ≡ refused Short → USeen n w
 
 u-seen : (n : ℕ) (w : List Bool) → USeen n w
@@ -45,12 +46,12 @@ u-seen n w = go (below (length w) n)
     go (inl l) = lacks l (u-breaks n w l)
     go (inr l) = there l (u-fits n w l)
 
-u-sound : (n : ℕ) (w : List Bool) {c m : ℕ} → uFront n w ≡ taken c m → Starts (bits n) w c m
+u-sound : (n : ℕ) (w : List Bool) {c m : ℕ} → uFront n w ≡ taken c m → Starts (unsigned n) w c m
 u-sound n w {c} {m} e = go (u-seen n w)
   where
-    go : USeen n w → Starts (bits n) w c m
+    go : USeen n w → Starts (unsigned n) w c m
     go (there l f) =
-        let g : taken (number (take n w)) n ≡ taken c m = sym f ∙ e in
+        let g : taken (unsignedOf (take n w)) n ≡ taken c m = sym f ∙ e in
         let k : n ≡ m = cc in
         record {
           own = take n w;
@@ -61,12 +62,12 @@ u-sound n w {c} {m} e = go (u-seen n w)
         }
     go (lacks l f) = not-taken (sym f ∙ e)
 
-u-complete : (n : ℕ) (w : List Bool) {c m : ℕ} → Starts (bits n) w c m → uFront n w ≡ taken c m
+u-complete : (n : ℕ) (w : List Bool) {c m : ℕ} → Starts (unsigned n) w c m → uFront n w ≡ taken c m
 u-complete n w {c} {m} d =
     let e : length (d .own) ≡ n = d .coded .long in
     let k : length w ≡ length (d .own) + length (d .rest) = ap length (d .split) ∙ length-append (d .own) (d .rest) in
     let own : take n w ≡ d .own = ap (take n) (d .split) ∙ take-at (d .own) (d .rest) n e in
-    u-fits n w (omega arith) ∙ ap₂ taken (ap number own ∙ d .coded .says) (sym e ∙ d .long)
+    u-fits n w (omega arith) ∙ ap₂ taken (ap unsignedOf own ∙ d .coded .says) (sym e ∙ d .long)
 
 -- ---- ue(v): after z zeros, with k more to be looked at
 
@@ -77,7 +78,7 @@ record Golomb (z k : ℕ) (w rest : List Bool) (c n : ℕ) : Type 0 where
   few : y < k
   long : length last ≡ z + y
   split : w ≡ replicate y false ++ true ∷ (last ++ rest)
-  says : 2 ^ (z + y) - 1 + number last ≡ c
+  says : 2 ^ (z + y) - 1 + unsignedOf last ≡ c
   count : z + y + 1 + (z + y) ≡ n
 
 golomb-sound : (z k : ℕ) (w : List Bool) {c n : ℕ} → ueAfter z k w ≡ taken c n → (rest : List Bool) × Golomb z k w rest c n
@@ -102,7 +103,7 @@ golomb-sound z (suc k) (true ∷ w) {c} {n} e = go (u-seen z w)
   where
     go : USeen z w → (rest : List Bool) × Golomb z (suc k) (true ∷ w) rest c n
     go (there l f) =
-        let g : taken (2 ^ z - 1 + number (take z w)) (z + 1 + z) ≡ taken c n = ap (meant z) (sym f) ∙ e in (
+        let g : taken (2 ^ z - 1 + unsignedOf (take z w)) (z + 1 + z) ≡ taken c n = ap (meant z) (sym f) ∙ e in (
           drop z w,
           record {
             y = 0;
@@ -117,7 +118,7 @@ golomb-sound z (suc k) (true ∷ w) {c} {n} e = go (u-seen z w)
     go (lacks l f) = not-taken (ap (meant z) (sym f) ∙ e)
 
 golomb-complete : (y z k : ℕ) (last rest : List Bool) → y < k → length last ≡ z + y
-    → ueAfter z k (replicate y false ++ true ∷ (last ++ rest)) ≡ taken (2 ^ (z + y) - 1 + number last) (z + y + 1 + (z + y))
+    → ueAfter z k (replicate y false ++ true ∷ (last ++ rest)) ≡ taken (2 ^ (z + y) - 1 + unsignedOf last) (z + y + 1 + (z + y))
 unfolding ueAfter
 golomb-complete y z zero last rest h e = absurd (omega arith)
 golomb-complete zero z (suc k) last rest h e =
@@ -212,10 +213,10 @@ short-complete (suc y) z (suc k) (b ∷ w) last lacking h l m e =
 
 -- it is read as c, of n bits, exactly where w starts with the code of c
 pub front-taken : (h : Shape) (w : List Bool) (c n : ℕ) → (shapeFront h w ≡ taken c n) ↔ Starts h w c n
-front-taken (bits m) w c n = (u-sound m w, u-complete m w)
-front-taken golomb w c n = (sound, complete)
+front-taken (unsigned m) w c n = (u-sound m w, u-complete m w)
+front-taken expGolomb w c n = (sound, complete)
   where
-    sound : ueAfter 0 32 w ≡ taken c n → Starts golomb w c n
+    sound : ueAfter 0 32 w ≡ taken c n → Starts expGolomb w c n
     sound e =
         let g = golomb-sound 0 32 w e in
         let r = g .1 in
@@ -237,7 +238,7 @@ front-taken golomb w c n = (sound, complete)
               ∙ omega (arith, length-replicate (r .y) false, r .long, r .count);
         }
 
-    complete : Starts golomb w c n → ueAfter 0 32 w ≡ taken c n
+    complete : Starts expGolomb w c n → ueAfter 0 32 w ≡ taken c n
     complete d =
         let g = d .coded in
         let e : w ≡ replicate (g .zeros) false ++ true ∷ (g .last ++ d .rest) =
@@ -250,36 +251,36 @@ front-taken golomb w c n = (sound, complete)
 
 -- 4 exactly where it is a ue(v) and 32 zeros stand
 pub front-zeros : (h : Shape) (w : List Bool) → (shapeFront h w ≡ refused Zeros) ↔ TooManyZeros h w
-front-zeros (bits n) w = (λ e. go e (u-seen n w), λ d. absurd d)
+front-zeros (unsigned n) w = (λ e. go e (u-seen n w), λ d. absurd d)
   where
     go : uFront n w ≡ refused Zeros → USeen n w → ⊥
     go e (there l f) = not-taken (sym e ∙ f)
     go e (lacks l f) = not-both (sym f ∙ e)
-front-zeros golomb w = (zeros-sound 0 32 w, λ d. ap (ueAfter 0 32) (d .1) ∙ zeros-complete 0 32 (d .0))
+front-zeros expGolomb w = (zeros-sound 0 32 w, λ d. ap (ueAfter 0 32) (d .1) ∙ zeros-complete 0 32 (d .0))
 
 -- 3 exactly where what is left is the beginning of a code, and not all of it
 pub front-short : (h : Shape) (w : List Bool) → (shapeFront h w ≡ refused Short) ↔ BreaksOff h w
-front-short (bits n) w = (λ e. go e (u-seen n w), λ d. u-breaks n w (omega (arith, d .some, length-append w (d .lacking), d .coded .long)))
+front-short (unsigned n) w = (λ e. go e (u-seen n w), λ d. u-breaks n w (omega (arith, d .some, length-append w (d .lacking), d .coded .long)))
   where
-    go : uFront n w ≡ refused Short → USeen n w → BreaksOff (bits n) w
+    go : uFront n w ≡ refused Short → USeen n w → BreaksOff (unsigned n) w
     go e (there l f) = not-taken (sym e ∙ f)
     go e (lacks l f) =
         let more = replicate (n - length w) false in
         let k = length-replicate (n - length w) false in
-        record { code = number (w ++ more); lacking = more; some = omega arith; coded = record { long = omega (arith, length-append w more); says = refl } }
-front-short golomb w = (sound, complete)
+        record { code = unsignedOf (w ++ more); lacking = more; some = omega arith; coded = record { long = omega (arith, length-append w more); says = refl } }
+front-short expGolomb w = (sound, complete)
   where
-    sound : ueAfter 0 32 w ≡ refused Short → BreaksOff golomb w
+    sound : ueAfter 0 32 w ≡ refused Short → BreaksOff expGolomb w
     sound e =
         let r = short-sound 0 32 w e in
         record {
-          code = 2 ^ r .y - 1 + number (r .last);
+          code = 2 ^ r .y - 1 + unsignedOf (r .last);
           lacking = r .lacking;
           some = r .some;
           coded = record { zeros = r .y; last = r .last; few = r .few; long = r .long ∙ zero-add (r .y); split = r .split; says = refl };
         }
 
-    complete : BreaksOff golomb w → ueAfter 0 32 w ≡ refused Short
+    complete : BreaksOff expGolomb w → ueAfter 0 32 w ≡ refused Short
     complete d = let g = d .coded in short-complete (g .zeros) 0 32 w (g .last) (d .lacking) (g .few) (omega (arith, g .long)) (d .some) (g .split)
 
 -- and there is no fourth answer
@@ -296,18 +297,18 @@ golomb-seen z (suc k) (false ∷ w) = golomb-seen (suc z) k w
 golomb-seen z (suc k) (true ∷ w) = go (u-seen z w)
   where
     go : USeen z w → ((c : ℕ) × (n : ℕ) × (meant z (uFront z w) ≡ taken c n)) ⊎ ((meant z (uFront z w) ≡ refused Short) ⊎ (meant z (uFront z w) ≡ refused Zeros))
-    go (there l f) = inl (2 ^ z - 1 + number (take z w), z + 1 + z, ap (meant z) f)
+    go (there l f) = inl (2 ^ z - 1 + unsignedOf (take z w), z + 1 + z, ap (meant z) f)
     go (lacks l f) = inr (inl (ap (meant z) f))
 
 pub front-seen : (h : Shape) (w : List Bool) → FrontSeen h w
-front-seen (bits n) w = go (u-seen n w)
+front-seen (unsigned n) w = go (u-seen n w)
   where
-    go : USeen n w → FrontSeen (bits n) w
-    go (there l f) = seen (number (take n w)) n f
+    go : USeen n w → FrontSeen (unsigned n) w
+    go (there l f) = seen (unsignedOf (take n w)) n f
     go (lacks l f) = short f
-front-seen golomb w = go (golomb-seen 0 32 w)
+front-seen expGolomb w = go (golomb-seen 0 32 w)
   where
-    go : ((c : ℕ) × (n : ℕ) × (ueAfter 0 32 w ≡ taken c n)) ⊎ ((ueAfter 0 32 w ≡ refused Short) ⊎ (ueAfter 0 32 w ≡ refused Zeros)) → FrontSeen golomb w
+    go : ((c : ℕ) × (n : ℕ) × (ueAfter 0 32 w ≡ taken c n)) ⊎ ((ueAfter 0 32 w ≡ refused Short) ⊎ (ueAfter 0 32 w ≡ refused Zeros)) → FrontSeen expGolomb w
     go (inl r) = seen (r .0) (r .1) (r .2)
     go (inr (inl e)) = short e
     go (inr (inr e)) = zeros e

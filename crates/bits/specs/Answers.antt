@@ -12,17 +12,17 @@ use Rattle.bits.specs.declared.read.Onward.{Onward}
 use Rattle.bits.specs.declared.read.Onward.the-variants as onward
 use Rattle.bits.specs.declared.refusal.Refusal.{Refusal}
 
-abbrev pub answer : Read → Out ℕ
-answer (Value v c) = taken v (c .at)
-answer (Refused r) = refused r
+abbrev pub readOut : Read → Out ℕ
+readOut (Value v c) = taken v (c .at)
+readOut (Refused r) = refused r
 
-abbrev pub byteAnswer : ByteRead → Out ℕ
-byteAnswer (byte.Value v c) = taken v (c .at)
-byteAnswer (byte.Refused r) = refused r
+abbrev pub byteOut : ByteRead → Out ℕ
+byteOut (byte.Value v c) = taken v (c .at)
+byteOut (byte.Refused r) = refused r
 
-abbrev pub wordAnswer : WordRead → Out ℕ
-wordAnswer (word.Value v c) = taken v (c .at)
-wordAnswer (word.Refused r) = refused r
+abbrev pub wordOut : WordRead → Out ℕ
+wordOut (word.Value v c) = taken v (c .at)
+wordOut (word.Refused r) = refused r
 
 -- why a reading does not go on; asked only where it does not
 abbrev pub onwardRefusal : Onward → Refusal

@@ -38,6 +38,6 @@ digit false = 0
 digit true = 1
 
 -- the number that the bits w make
-unfoldable pub number : List Bool → ℕ
-number [] = 0
-number (b ∷ w) = digit b * 2 ^ length w + number w
+unfoldable pub unsignedOf : List Bool → ℕ
+unsignedOf [] = 0
+unsignedOf (b ∷ w) = digit b * 2 ^ length w + unsignedOf w

@@ -4,13 +4,14 @@ use mathlib.Core.Bool.{Bool, true, false, cond}
 use mathlib.Core.List.{List, [], _∷_}
 use lib.ListN.{length, take}
 use lib.Dec.{leb}
-use Rattle.bits.specs.Bits.{from, number}
+use Rattle.bits.specs.Bits.{from, unsignedOf}
+use Rattle.bits.specs.Coding.{Shape, unsigned, expGolomb}
 use Rattle.bits.specs.Out.{Out, taken, refused, placed}
 use Rattle.bits.specs.declared.refusal.Refusal.the-variants.{Short, Zeros}
 
 -- u(n)
 unfoldable pub uFront : ℕ → List Bool → Out ℕ
-uFront n w = cond (leb n (length w)) (taken (number (take n w)) n) (refused Short)
+uFront n w = cond (leb n (length w)) (taken (unsignedOf (take n w)) n) (refused Short)
 
 -- the meaning of a ue(v) with z zeros whose z last bits make x: 2 ^ z - 1 + x
 abbrev pub meant : ℕ → Out ℕ → Out ℕ
@@ -34,6 +35,16 @@ uAt s p n = placed p (uFront n (from s p))
 
 unfoldable pub ueAt : List ℕ → ℕ → Out ℕ
 ueAt s p = placed p (ueFront (from s p))
+
+-- reading an element of a shape at the front of w
+abbrev pub shapeFront : Shape → List Bool → Out ℕ
+shapeFront (unsigned n) w = uFront n w
+shapeFront expGolomb w = ueFront w
+
+-- and at bit p of the payload s
+abbrev pub shapeAt : Shape → List ℕ → ℕ → Out ℕ
+shapeAt (unsigned n) s p = uAt s p n
+shapeAt expGolomb s p = ueAt s p
 
 -- how many zeros w starts with, counted to at most d
 unfoldable pub leading : ℕ → List Bool → ℕ

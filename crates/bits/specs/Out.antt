@@ -1,7 +1,7 @@
 -- What a reading comes to: what was read, with the number of the bit after it; or a refusal.
 use Prim.Native.Nat.{ℕ, _+_}
 use Rattle.bits.specs.declared.refusal.Refusal.{Refusal}
-use Rattle.bits.specs.Refusals.{numberOf, unasked}
+use Rattle.bits.specs.Refusals.{refusalNumber, unasked}
 
 pub data Out (A : Type 0) : Type 0 where
   taken : A → ℕ → Out A
@@ -11,7 +11,7 @@ pub data Out (A : Type 0) : Type 0 where
 -- with its cursor, or a refusal, means an `Out`: so this is the number of each of its cases.
 abbrev pub numberIn : {A : Type 0} → Out A → ℕ
 numberIn (taken a q) = 0
-numberIn (refused r) = numberOf r
+numberIn (refused r) = refusalNumber r
 
 -- o, and then k of what was read and of the bit after it; a refusal is handed up whole
 abbrev pub after : {A B : Type 0} → Out A → (A → ℕ → Out B) → Out B

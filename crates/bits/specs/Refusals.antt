@@ -4,17 +4,17 @@ use Rattle.bits.specs.declared.refusal.Refusal.{Refusal}
 use Rattle.bits.specs.declared.refusal.Refusal.the-variants.{Kind, Size, Short, Zeros, Rule, Regions, Tail, Slot, Table, Rows}
 
 -- the table of RULES 7
-abbrev pub numberOf : Refusal → ℕ
-numberOf Kind = 1
-numberOf Size = 2
-numberOf Short = 3
-numberOf Zeros = 4
-numberOf Rule = 5
-numberOf Regions = 6
-numberOf Tail = 7
-numberOf Slot = 8
-numberOf Table = 9
-numberOf Rows = 10
+abbrev pub refusalNumber : Refusal → ℕ
+refusalNumber Kind = 1
+refusalNumber Size = 2
+refusalNumber Short = 3
+refusalNumber Zeros = 4
+refusalNumber Rule = 5
+refusalNumber Regions = 6
+refusalNumber Tail = 7
+refusalNumber Slot = 8
+refusalNumber Table = 9
+refusalNumber Rows = 10
 
 -- the refusals of calls, as the layers above name them
 abbrev pub byKind : Refusal

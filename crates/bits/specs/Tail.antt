@@ -1,13 +1,11 @@
 -- The end of a payload: w is all that is left of it after its message.
-use Prim.Native.Nat.{ℕ, suc, _+_, _<_}
-use mathlib.Core.Path.{_≡_}
-use mathlib.Core.Logic.{_⊎_}
+use Prim.Native.Nat.{ℕ, suc, _+_}
 use mathlib.Core.Bool.{Bool, true, false, cond}
-use mathlib.Core.List.{List, [], _∷_, _++_}
-use lib.ListN.{length, replicate}
+use mathlib.Core.List.{List, [], _∷_}
+use lib.ListN.{length}
 use lib.Dec.{leb}
 use Rattle.bits.specs.Bits.{from}
-use Rattle.bits.specs.Refusals.{numberOf}
+use Rattle.bits.specs.Refusals.{refusalNumber}
 use Rattle.bits.specs.declared.ending.Ending.{Ending}
 use Rattle.bits.specs.declared.ending.Ending.the-variants.{Extension, Refused}
 use Rattle.bits.specs.declared.refusal.Refusal.the-variants.{Tail}
@@ -29,7 +27,7 @@ lastOne (b ∷ w) = further b (lastOne w)
 -- the number of RULES 7: 0, with the extension's length, or the refusal's
 abbrev pub endingNumber : Ending → ℕ
 endingNumber (Extension e) = 0
-endingNumber (Refused r) = numberOf r
+endingNumber (Refused r) = refusalNumber r
 
 -- the last one bit must exist and lie in the final byte; the bits before it are the extension
 abbrev pub judged : ℕ → Last → Ending
@@ -43,15 +41,3 @@ tailOf (b ∷ w) = judged (length (b ∷ w)) (lastOne (b ∷ w))
 
 unfoldable pub tailAt : List ℕ → ℕ → Ending
 tailAt s p = tailOf (from s p)
-
--- The same, declared: w is an extension of e bits, a one and fewer than eight zeros ..
-pub record Tailed (w : List Bool) (e : ℕ) : Type 0 where
-  pub extension : List Bool
-  pub zeros : ℕ
-  pub few : zeros < 8
-  pub split : w ≡ extension ++ true ∷ replicate zeros false
-  pub count : length extension ≡ e
-
--- .. or nothing is left, which counts as no extension
-abbrev pub Ended : List Bool → ℕ → Type 0
-Ended w e = ((w ≡ []) × (e ≡ 0)) ⊎ Tailed w e

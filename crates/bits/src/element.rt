@@ -6,9 +6,9 @@ use crate::read::WordRead;
 use crate::refusal::Refusal;
 ghost use mathlib.Core.Path.{_≡_};
 ghost use Prim.Native.Nat.{_-_, _≤_, _<_};
-ghost use Rattle.bits.specs.Bits.{Payload, bitsIn, bitAt, part, digit, from, number as numberOf};
+ghost use Rattle.bits.specs.Bits.{Payload, bitsIn, bitAt, part, digit, from, unsignedOf};
 ghost use Rattle.bits.specs.Elements.{leading, uAt, ueAt};
-ghost use Rattle.bits.specs.Answers.{answer, byteAnswer, wordAnswer};
+ghost use Rattle.bits.specs.Answers.{readOut, byteOut, wordOut};
 ghost use Rattle.bits.specs.Signed.{signedOf};
 
 // Bit i, as a number.
@@ -22,7 +22,7 @@ pub(crate) fn bit(s: &[u8], i: usize) -> u32
 }
 
 // How many bits there are from a position on.
-pub(crate) fn left(s: &[u8], at: usize) -> usize
+pub(crate) fn remaining(s: &[u8], at: usize) -> usize
     requires { ⌜ Payload (now s) ⌝ }
     ensures { λ r. ⌜ r ≡ bitsIn (now (s .entry)) - at ⌝ }
 {
@@ -31,9 +31,9 @@ pub(crate) fn left(s: &[u8], at: usize) -> usize
 }
 
 // The number that n bits make, all of which are there.
-pub(crate) fn number(s: &[u8], at: usize, n: usize) -> u32
+pub(crate) fn unsigned(s: &[u8], at: usize, n: usize) -> u32
     requires { ⌜ Payload (now s) × (n ≤ bitsIn (now s) - at) × (n ≤ 32) ⌝ }
-    ensures { λ r. ⌜ r ≡ numberOf (part (now (s .entry)) at n) ⌝ }
+    ensures { λ r. ⌜ r ≡ unsignedOf (part (now (s .entry)) at n) ⌝ }
 {
     let mut value: u32 = 0;
     let mut i: usize = 0;
@@ -47,20 +47,20 @@ pub(crate) fn number(s: &[u8], at: usize, n: usize) -> u32
 // u(n): n unsigned bits.
 pub fn u(s: &[u8], c: Cursor, n: u32) -> Read
     requires { ⌜ Payload (now s) × (n ≤ 32) ⌝ }
-    ensures { λ r. ⌜ answer r ≡ uAt (now (s .entry)) (c .at) n ⌝ }
+    ensures { λ r. ⌜ readOut r ≡ uAt (now (s .entry)) (c .at) n ⌝ }
 {
     let at = c.at;
     let width = n as usize;
-    if left(s, at) < width {
+    if remaining(s, at) < width {
         return Read::Refused(Refusal::Short);
     }
-    Read::Value(number(s, at, width), Cursor { at: at + width })
+    Read::Value(unsigned(s, at, width), Cursor { at: at + width })
 }
 
 // u(n) of at most 8 bits, as a byte.
 pub fn byte(s: &[u8], c: Cursor, n: u32) -> ByteRead
     requires { ⌜ Payload (now s) × (n ≤ 8) ⌝ }
-    ensures { λ r. ⌜ byteAnswer r ≡ uAt (now (s .entry)) (c .at) n ⌝ }
+    ensures { λ r. ⌜ byteOut r ≡ uAt (now (s .entry)) (c .at) n ⌝ }
 {
     let r = u(s, c, n);
     let Read::Value(v, next) = r else {
@@ -72,7 +72,7 @@ pub fn byte(s: &[u8], c: Cursor, n: u32) -> ByteRead
 // u(n) of at most 16 bits.
 pub fn word(s: &[u8], c: Cursor, n: u32) -> WordRead
     requires { ⌜ Payload (now s) × (n ≤ 16) ⌝ }
-    ensures { λ r. ⌜ wordAnswer r ≡ uAt (now (s .entry)) (c .at) n ⌝ }
+    ensures { λ r. ⌜ wordOut r ≡ uAt (now (s .entry)) (c .at) n ⌝ }
 {
     let r = u(s, c, n);
     let Read::Value(v, next) = r else {
@@ -105,7 +105,7 @@ fn zeros(s: &[u8], at: usize) -> u32
 // ue(v): z zeros, a one and z bits. The one and the z bits make one more than the meaning.
 pub fn ue(s: &[u8], c: Cursor) -> Read
     requires { ⌜ Payload (now s) ⌝ }
-    ensures { λ r. ⌜ answer r ≡ ueAt (now (s .entry)) (c .at) ⌝ }
+    ensures { λ r. ⌜ readOut r ≡ ueAt (now (s .entry)) (c .at) ⌝ }
 {
     let at = c.at;
     let z = zeros(s, at);

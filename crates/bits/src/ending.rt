@@ -1,7 +1,7 @@
 // The end of a payload, after its message.
 use crate::cursor::Cursor;
 use crate::element::bit;
-use crate::element::left;
+use crate::element::remaining;
 use crate::refusal::Refusal;
 ghost use mathlib.Core.Path.{_≡_};
 ghost use Rattle.bits.specs.Bits.{Payload};
@@ -19,7 +19,7 @@ pub fn tail(s: &[u8], c: Cursor) -> Ending
     ensures { λ r. ⌜ r ≡ tailAt (now (s .entry)) (c .at) ⌝ }
 {
     let p = c.at;
-    let rest = left(s, p);
+    let rest = remaining(s, p);
     if rest == 0 {
         return Ending::Extension(0);
     }

@@ -3,7 +3,7 @@ use crate::cursor::Cursor;
 use crate::refusal::Refusal;
 ghost use mathlib.Core.Path.{_≡_};
 ghost use Rattle.bits.specs.Out.{refusalIn};
-ghost use Rattle.bits.specs.Answers.{answer, byteAnswer, wordAnswer, onwardRefusal};
+ghost use Rattle.bits.specs.Answers.{readOut, byteOut, wordOut, onwardRefusal};
 
 pub enum Read {
     Value(u32, Cursor),
@@ -32,7 +32,7 @@ pub enum Onward {
 impl Read {
     // Why there is no value; asked only where there is none.
     pub fn refusal(self) -> Refusal
-        ensures { λ r. ⌜ r ≡ refusalIn (answer self) ⌝ }
+        ensures { λ r. ⌜ r ≡ refusalIn (readOut self) ⌝ }
     {
         match self {
             Read::Refused(why) => why,
@@ -43,7 +43,7 @@ impl Read {
 
 impl ByteRead {
     pub fn refusal(self) -> Refusal
-        ensures { λ r. ⌜ r ≡ refusalIn (byteAnswer self) ⌝ }
+        ensures { λ r. ⌜ r ≡ refusalIn (byteOut self) ⌝ }
     {
         match self {
             ByteRead::Refused(why) => why,
@@ -54,7 +54,7 @@ impl ByteRead {
 
 impl WordRead {
     pub fn refusal(self) -> Refusal
-        ensures { λ r. ⌜ r ≡ refusalIn (wordAnswer self) ⌝ }
+        ensures { λ r. ⌜ r ≡ refusalIn (wordOut self) ⌝ }
     {
         match self {
             WordRead::Refused(why) => why,

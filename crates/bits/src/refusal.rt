@@ -1,7 +1,7 @@
 // Why a payload, or a call, is refused. Refusals are made in this crate and handed up whole.
 use crate::cursor::Cursor;
 ghost use mathlib.Core.Path.{_≡_};
-ghost use Rattle.bits.specs.Refusals.{numberOf, byKind, bySize, bySlot, byTable, byRows, unasked, broken, tooMany, refusalOf};
+ghost use Rattle.bits.specs.Refusals.{refusalNumber, byKind, bySize, bySlot, byTable, byRows, unasked, broken, tooMany, refusalOf};
 
 pub enum Refusal {
     // The kind is none that is read.
@@ -29,7 +29,7 @@ pub enum Refusal {
 impl Refusal {
     // The number that a caller gets.
     pub fn number(self) -> u32
-        ensures { λ n. ⌜ n ≡ numberOf self ⌝ }
+        ensures { λ n. ⌜ n ≡ refusalNumber self ⌝ }
     {
         match self {
             Refusal::Kind => 1,

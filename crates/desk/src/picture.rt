@@ -4,7 +4,7 @@ use held::Held;
 use held::HeldEquirectangular;
 use held::HeldFramePacking;
 use held::HeldOrientation;
-use held::HeldPacking;
+use held::HeldRegionWise;
 use held::HeldRotation;
 use print::ROOM;
 use print::text;
@@ -21,27 +21,27 @@ fn one(out: &mut [u8; ROOM], kind: u64, on: u8, row: &[u64]) -> bool {
 }
 
 fn frame_packing(out: &mut [u8; ROOM], held: HeldFramePacking) -> bool {
-    let row = fields::record::frame_packing(0, held.value);
+    let row = record_row::record::frame_packing(0, held.value);
     one(out, 45, held.on, &row)
 }
 
 fn orientation(out: &mut [u8; ROOM], held: HeldOrientation) -> bool {
-    let row = fields::record::orientation(0, held.value);
+    let row = record_row::record::orientation(0, held.value);
     one(out, 47, held.on, &row)
 }
 
 fn equirectangular(out: &mut [u8; ROOM], held: HeldEquirectangular) -> bool {
-    let row = fields::record::equirectangular(0, held.value);
+    let row = record_row::record::equirectangular(0, held.value);
     one(out, 150, held.on, &row)
 }
 
 fn rotation(out: &mut [u8; ROOM], held: HeldRotation) -> bool {
-    let row = fields::record::rotation(0, held.value);
+    let row = record_row::record::rotation(0, held.value);
     one(out, 154, held.on, &row)
 }
 
-fn packing(out: &mut [u8; ROOM], held: HeldPacking) -> bool {
-    let row = fields::record::packing(0, held.value);
+fn packing(out: &mut [u8; ROOM], held: HeldRegionWise) -> bool {
+    let row = record_row::record::region_wise(0, held.value);
     one(out, 155, held.on, &row)
 }
 
@@ -50,7 +50,7 @@ fn records(out: &mut [u8; ROOM], held: Held) {
         | orientation(out, held.orientation)
         | equirectangular(out, held.equirectangular)
         | rotation(out, held.rotation)
-        | packing(out, held.regions);
+        | packing(out, held.region_wise);
     if !some {
         text(out, b", nothing is held");
     }

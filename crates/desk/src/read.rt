@@ -1,12 +1,12 @@
 // What is shown of a payload and its answer.
 use crate::status::status;
 use answers::Answer;
-use fields::record::PACKING_FIELDS;
+use answers::Rest;
 use lent::front;
 use print::ROOM;
 use reader::payload;
-use reader::user::Start;
 use reader::user::user_part;
+use record_row::record::REGION_WISE_FIELDS;
 use script::call::Payload;
 use script::line::BYTES;
 use show::answer::Asked;
@@ -14,8 +14,8 @@ use show::style::Style;
 
 // What follows the head of kinds 4 and 5. Only where there is such a part is the payload read again for it.
 fn part(answer: Answer, p: Payload, bytes: &[u8]) -> &[u8] {
-    let start = Start::of(answer);
-    let Start::At(_) = start else {
+    let rest = answer.rest;
+    let Rest::From(_) = rest else {
         return front(bytes, 0);
     };
     user_part(p.kind, p.size, bytes)
@@ -23,9 +23,9 @@ fn part(answer: Answer, p: Payload, bytes: &[u8]) -> &[u8] {
 
 // What a payload was answered.
 pub fn shown(out: &mut [u8; ROOM], style: Style, answer: Answer, p: Payload, bytes: &[u8]) {
-    // a packing has the longest row
-    let mut row = [0u64; PACKING_FIELDS];
-    let n = handing::write(&mut row, answer);
+    // kind 155 has the longest row
+    let mut row = [0u64; REGION_WISE_FIELDS];
+    let n = record_row::handing::write(&mut row, answer);
     let part = part(answer, p, bytes);
     let asked = Asked {
         kind: p.kind,

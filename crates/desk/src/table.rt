@@ -1,14 +1,14 @@
 // The region table of a slot.
 use crate::status::status;
+use kind_region_wise::MOST;
 use print::ROOM;
 use print::numbered;
 use print::text;
-use regions::MOST;
-use rows::Tabled;
+use region_table::rows::Tabled;
 use show::number::called;
 use slots::Slots;
 ghost use Prim.Native.Nat.{_*_, _≤_};
-ghost use Rattle.regions.specs.List.{most};
+ghost use Rattle.kind_region_wise.specs.RegionWise.{most};
 
 // Two rows a region fill these: lending more changes nothing.
 const NUMBERS: usize = 18 * MOST;
@@ -41,6 +41,6 @@ pub fn table(out: &mut [u8; ROOM], slots: Slots, slot: u64, n: u64) {
     let mut rows = [0u64; NUMBERS];
     let start = 0;
     let end = lent(n);
-    let r = tables::table(slots, slot, &mut rows[start..end]);
+    let r = region_table::table(slots, slot, &mut rows[start..end]);
     shown(out, r, &rows);
 }

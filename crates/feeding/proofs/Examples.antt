@@ -3,18 +3,22 @@
 use Prim.Native.Nat.{ℕ}
 use mathlib.Core.Path.{_≡_, refl}
 use mathlib.Core.List.{List, [], _∷_}
-use Rattle.bits.specs.Bits.{bitAt, part, from, number}
+use Rattle.bits.specs.Bits.{bitAt, part, from, unsignedOf}
 use Rattle.bits.specs.Elements.{uFront, ueAfter}
 use Rattle.bits.specs.Tail.{lastOne, tailOf}
 use Rattle.bits.specs.Refusals.{bySlot}
-use Rattle.format.specs.Format.{elementFront, run}
+use Rattle.format.specs.Reading.{elementFront, run}
 use Rattle.format.specs.Whole.{whole}
-use Rattle.frame_packing.specs.FramePacking.{noFlags, noGrid, sixFlags, gridPositions, arrangement, framePacking}
-use Rattle.aside.specs.SetAside.{reservedId, reservedType, reservedInterpretation, setAside}
-use Rattle.frame_packing.specs.declared.FramePacking.{FramePacking}
+use Rattle.format.specs.Format.{zeros}
+use Rattle.format.specs.Syntax.{i32, times}
+use Rattle.kind_region_wise.specs.RegionWise.{region}
+use Rattle.kind_frame_packing.specs.FramePacking.{framePacking}
+use Rattle.kind_frame_packing.specs.FramePacking as frame-packing
+use Rattle.kind_frame_packing.specs.SetAside.{reservedId, reservedType, reservedInterpretation, setAside}
+use Rattle.kind_frame_packing.specs.declared.FramePacking.{FramePacking}
 use Rattle.answers.specs.Listed.{named, readingOf}
 use Rattle.answers.specs.Answer.{plain, made, refusedAs}
-use Rattle.entry.specs.Entry.{entryTo}
+use Rattle.reader.specs.Entry.{entryTo}
 use Rattle.reader.specs.Reader.{answerTo}
 use Rattle.answers.specs.declared.kind.Kind.the-variants as kinds
 use Rattle.answers.specs.declared.Outcome.the-variants.{Taken, Refused}
@@ -26,12 +30,12 @@ use Rattle.held.specs.Held.{
   noOrientation,
   noEquirectangular,
   noRotation,
-  noPacking,
+  noRegionWise,
   keptFramePacking,
   keptOrientation,
   keptEquirectangular,
   keptRotation,
-  keptPacking,
+  keptRegionWise,
   takenFramePacking,
   withFramePacking,
 }
@@ -57,29 +61,29 @@ shut-unknown = refl
 abbrev message : ℕ → FramePacking
 message persistence =
     record {
-      id = 0;
-      cancel = 0;
+      «fp_arrangement_id» = 0;
+      «fp_arrangement_cancel_flag» = 0;
       layout =
           record {
-            «arrangement_type» = 3;
-            quincunx = 0;
-            «content_interpretation» = 1;
-            flags = noFlags;
-            grid = noGrid;
-            persistence = persistence;
+            «fp_arrangement_type» = 3;
+            «fp_quincunx_sampling_flag» = 0;
+            «fp_content_interpretation_type» = 1;
+            flags = zeros frame-packing.table .layout .flags;
+            grid = zeros frame-packing.table .layout .grid;
+            «fp_arrangement_persistence_flag» = persistence;
           };
-      «upsampled_aspect_ratio» = 0;
+      «fp_upsampled_aspect_ratio_flag» = 0;
     }
 
 abbrev payload : ℕ → List ℕ
 payload last = 0x81 ∷ 0x81 ∷ 0 ∷ 0 ∷ 0 ∷ last ∷ []
 
 reads : answerTo 45 6 (payload 2) ≡ made kinds.FramePacking Taken (message 1) 0
-unfolding answerTo entryTo named readingOf whole framePacking arrangement sixFlags gridPositions run elementFront ueAfter uFront from part number bitAt lastOne tailOf setAside reservedId reservedType reservedInterpretation
+unfolding answerTo entryTo named readingOf whole framePacking run elementFront ueAfter uFront from part unsignedOf bitAt lastOne tailOf setAside reservedId reservedType reservedInterpretation
 reads = refl
 
 reads-unpersisting : answerTo 45 6 (payload 0) ≡ made kinds.FramePacking Taken (message 0) 0
-unfolding answerTo entryTo named readingOf whole framePacking arrangement sixFlags gridPositions run elementFront ueAfter uFront from part number bitAt lastOne tailOf setAside reservedId reservedType reservedInterpretation
+unfolding answerTo entryTo named readingOf whole framePacking run elementFront ueAfter uFront from part unsignedOf bitAt lastOne tailOf setAside reservedId reservedType reservedInterpretation
 reads-unpersisting = refl
 
 abbrev s1 : Slots
@@ -89,16 +93,16 @@ abbrev s2 : Slots
 s2 = fedTo (pictured s1 0 .slots) 0 45 6 (payload 0) .slots
 
 abbrev holds : FramePacking → Held
-holds x = record { «frame_packing» = record { on = 1; value = x }; orientation = noOrientation; equirectangular = noEquirectangular; rotation = noRotation; regions = noPacking }
+holds x = record { «frame_packing» = record { on = 1; value = x }; orientation = noOrientation; equirectangular = noEquirectangular; rotation = noRotation; «region_wise» = noRegionWise }
 
 first-shown : pictured s1 0 .held ≡ holds (message 1)
 unfolding fedTo heldAfter opened pictured start slotAt withSlot holding isOpen freshSlot closedSlot nothing withFramePacking takenFramePacking
 first-shown = rw reads
 
 second-shown : pictured s2 0 .held ≡ holds (message 0)
-unfolding fedTo heldAfter opened pictured start slotAt withSlot holding isOpen freshSlot closedSlot kept nothing withFramePacking takenFramePacking noOrientation noEquirectangular noRotation noPacking keptFramePacking keptOrientation keptEquirectangular keptRotation keptPacking
+unfolding i32 times region fedTo heldAfter opened pictured start slotAt withSlot holding isOpen freshSlot closedSlot kept nothing withFramePacking takenFramePacking noOrientation noEquirectangular noRotation noRegionWise keptFramePacking keptOrientation keptEquirectangular keptRotation keptRegionWise
 second-shown = simp (reads, reads-unpersisting)
 
 then-nothing : pictured (pictured s2 0 .slots) 0 .held ≡ nothing
-unfolding fedTo heldAfter opened pictured start slotAt withSlot holding isOpen freshSlot closedSlot kept nothing withFramePacking takenFramePacking noFramePacking noOrientation noEquirectangular noRotation noPacking keptFramePacking keptOrientation keptEquirectangular keptRotation keptPacking
+unfolding i32 times region fedTo heldAfter opened pictured start slotAt withSlot holding isOpen freshSlot closedSlot kept nothing withFramePacking takenFramePacking noFramePacking noOrientation noEquirectangular noRotation noRegionWise keptFramePacking keptOrientation keptEquirectangular keptRotation keptRegionWise
 then-nothing = simp (reads, reads-unpersisting)

@@ -14,11 +14,12 @@ use Rattle.bits.specs.declared.refusal.Refusal.{Refusal}
 use Rattle.format.specs.Whole.{Reading, taken, setAside, refused}
 use Rattle.format.proofs.Whole as whole
 use Rattle.answers.specs.Listed.{Record, form, number, named, readingOf}
-use Rattle.answers.specs.Answer.{numberOf, answerFor}
+use Rattle.answers.specs.Answer.{answerNumber, answerFor}
 use Rattle.reader.specs.Reader.{answerTo}
 use Rattle.reader.specs.Cases.{stated, Case}
 use Rattle.reader.specs.Cases as cases
 use Rattle.answers.specs.declared.kind.Kind.{Kind}
+use Rattle.answers.specs.declared.kind.Kind.the-variants as kinds
 use Rattle.answers.specs.declared.kind.Named.{Named}
 use Rattle.answers.specs.declared.kind.Named.the-variants.{Listed, Unlisted}
 use Rattle.answers.specs.declared.Answer.{Answer}
@@ -27,14 +28,14 @@ use Rattle.answers.specs.declared.Outcome.the-variants.{Taken, SetAside, Refuse
 use Rattle.answers.proofs.KindLaws.{one-kind}
 use Rattle.reader.proofs.Calls.{Call, unlisted, oversized, payload, call}
 use Rattle.reader.proofs.Demand2.{case}
-use Rattle.format.specs.Syntax.{if_then_else_}
+use Rattle.bits.specs.Choice.{if_then_else_}
 use Rattle.slots.specs.Slots.{Eight, slotAt, withSlot, isOpen, holding, Shut, ButFor, replaced}
 use Rattle.held.specs.declared.Held.{Held}
 use Rattle.slots.specs.declared.Slot.{Slot}
 use Rattle.slots.specs.declared.Slots.{Slots}
 use Rattle.slots.proofs.Laws.{apart, shut-off, replaced-slots, replaced-there, replaced-but-for}
 use Rattle.feeding.specs.declared.Fed.{Fed}
-use Rattle.feeding.specs.Feed.{Unheld, alpha, depth, registered, unregistered, heldBy, heldAfter, shutAs, shutAnswer, fedTo}
+use Rattle.feeding.specs.Feed.{Unheld, heldBy, heldAfter, shutAs, shutAnswer, fedTo}
 
 -- ---- what leaves the held records
 
@@ -43,48 +44,56 @@ pub untaken-keeps : (h : Held) (a : Answer) → a .outcome ≢ Taken → heldAft
 unfolding heldAfter
 untaken-keeps h a = go (a .outcome)
   where
-    go : (o : Outcome) → o ≢ Taken → heldBy h o (a .message) (a .regions) ≡ h
+    go : (o : Outcome) → o ≢ Taken → heldBy h o (a .message) (a .beside .«region_wise») ≡ h
     go Taken d = absurd (d refl)
     go SetAside d = refl
     go (Refused r) d = refl
+
+differ : {A : Type 0} → true ≡ false → A
+differ e = let z : _≡_ {A = ℕ} 0 1 = cc in absurd (omega arith)
 
 -- nor does a kind that is not held
 pub unheld-keeps : (h : Held) (k : Kind) (x : Reading (Record k)) → Unheld k → heldAfter h (answerFor k x) ≡ h
 unfolding heldAfter
 unheld-keeps h k (setAside a e) u = refl
 unheld-keeps h k (refused r) u = refl
-unheld-keeps h k (taken a e) alpha = refl
-unheld-keeps h k (taken a e) depth = refl
-unheld-keeps h k (taken a e) registered = refl
-unheld-keeps h k (taken a e) unregistered = refl
+unheld-keeps h kinds.FramePacking (taken a e) u = differ u
+unheld-keeps h kinds.Orientation (taken a e) u = differ u
+unheld-keeps h kinds.Equirectangular (taken a e) u = differ u
+unheld-keeps h kinds.Rotation (taken a e) u = differ u
+unheld-keeps h kinds.RegionWise (taken a e) u = differ u
+unheld-keeps h kinds.Alpha (taken a e) u = refl
+unheld-keeps h kinds.Depth (taken a e) u = refl
+unheld-keeps h kinds.Registered (taken a e) u = refl
+unheld-keeps h kinds.Unregistered (taken a e) u = refl
 
 -- ---- the number 8
 
-shut-number : (x : Named) → numberOf (shutAs x) ≡ 8
+shut-number : (x : Named) → answerNumber (shutAs x) ≡ 8
 shut-number (Listed k) = refl
 shut-number Unlisted = refl
 
-pub shut-8 : (kind : ℕ) → numberOf (shutAnswer kind) ≡ 8
+pub shut-8 : (kind : ℕ) → answerNumber (shutAnswer kind) ≡ 8
 unfolding shutAnswer
 shut-8 kind = shut-number (named kind)
 
-of-element : {r : Refusal} → refusals.OfElement r → refusals.numberOf r ≡ 8 → ⊥
+of-element : {r : Refusal} → refusals.OfElement r → refusals.refusalNumber r ≡ 8 → ⊥
 of-element refusals.short e = omega arith
 of-element refusals.zeros e = omega arith
 of-element refusals.rule e = omega arith
 of-element refusals.regions e = omega arith
 
 -- no reading is answered 8
-answer-not-8 : (kind size : ℕ) (bytes : List ℕ) → numberOf (answerTo kind size bytes) ≡ 8 → ⊥
+answer-not-8 : (kind size : ℕ) (bytes : List ℕ) → answerNumber (answerTo kind size bytes) ≡ 8 → ⊥
 answer-not-8 kind size bytes h = go (case kind size bytes)
   where
     go : Case kind size bytes → ⊥
-    go (cases.unlisted f m) = omega (arith, ap numberOf m)
-    go (cases.oversized k f o m) = omega (arith, ap numberOf m)
-    go (cases.stops k w r d m) = of-element (whole.stopped-which (form k .table) (stated size bytes) r d) (sym (ap numberOf m) ∙ h)
-    go (cases.tail k w d m) = omega (arith, ap numberOf m)
-    go (cases.aside k w a e d s m) = omega (arith, ap numberOf m)
-    go (cases.taken k w a e d s m) = omega (arith, ap numberOf m)
+    go (cases.unlisted f m) = omega (arith, ap answerNumber m)
+    go (cases.oversized k f o m) = omega (arith, ap answerNumber m)
+    go (cases.stops k w r d m) = of-element (whole.stopped-which (form k .table) (stated size bytes) r d) (sym (ap answerNumber m) ∙ h)
+    go (cases.tail k w d m) = omega (arith, ap answerNumber m)
+    go (cases.aside k w a e d s m) = omega (arith, ap answerNumber m)
+    go (cases.taken k w a e d s m) = omega (arith, ap answerNumber m)
 
 -- ---- a feed replaces an open slot by what is left of it
 
@@ -116,10 +125,10 @@ module _ (s : Slots) (n kind size : ℕ) (bytes : List ℕ) where
   fed-but-for = rw fed-slots (replaced-but-for s n left)
 
   -- 8 exactly where there is no such slot or it is closed
-  pub fed-8 : Eight s → (numberOf (fedTo s n kind size bytes .answer) ≡ 8) ↔ Shut s n
+  pub fed-8 : Eight s → (answerNumber (fedTo s n kind size bytes .answer) ≡ 8) ↔ Shut s n
   fed-8 e = rw fed-answer (go (isOpen (slotAt s n)) refl)
     where
-      go : (b : Bool) → isOpen (slotAt s n) ≡ b → (numberOf (if b then answerTo kind size bytes else shutAnswer kind) ≡ 8) ↔ Shut s n
+      go : (b : Bool) → isOpen (slotAt s n) ≡ b → (answerNumber (if b then answerTo kind size bytes else shutAnswer kind) ≡ 8) ↔ Shut s n
       go true o = (λ h. absurd (answer-not-8 kind size bytes h), λ h. absurd (apart o (shut-off s n e h)))
       go false o = (λ h. inr o, λ h. shut-8 kind)
 

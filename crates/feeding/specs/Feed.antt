@@ -1,13 +1,15 @@
 -- Feeding: what an answer leaves of the held records, and what a feed answers and leaves of the slots.
 use Prim.Native.Nat.{ℕ}
+use mathlib.Core.Path.{_≡_}
+use mathlib.Core.Bool.{Bool, false, _||_}
 use mathlib.Core.List.{List}
+use lib.Dec.{eqb}
 use Rattle.bits.specs.Refusals.{bySlot}
-use Rattle.regions.specs.declared.Packing.{Packing}
-use Rattle.answers.specs.Listed.{named}
+use Rattle.kind_region_wise.specs.declared.RegionWise.{RegionWise}
+use Rattle.answers.specs.Listed.{number, named}
 use Rattle.answers.specs.Answer.{plain, refusedAs}
 use Rattle.reader.specs.Reader.{answerTo}
 use Rattle.answers.specs.declared.kind.Kind.{Kind}
-use Rattle.answers.specs.declared.kind.Kind.the-variants as kinds
 use Rattle.answers.specs.declared.kind.Named.{Named}
 use Rattle.answers.specs.declared.kind.Named.the-variants.{Listed, Unlisted}
 use Rattle.answers.specs.declared.Answer.{Answer}
@@ -15,8 +17,8 @@ use Rattle.answers.specs.declared.Outcome.{Outcome}
 use Rattle.answers.specs.declared.Outcome.the-variants.{Taken, SetAside, Refused}
 use Rattle.answers.specs.declared.Message.{Message}
 use Rattle.answers.specs.declared.Message.the-variants as message
-use Rattle.format.specs.Syntax.{if_then_else_}
-use Rattle.held.specs.Held.{withFramePacking, withOrientation, withEquirectangular, withRotation, withRegions}
+use Rattle.bits.specs.Choice.{if_then_else_}
+use Rattle.held.specs.Held.{withFramePacking, withOrientation, withEquirectangular, withRotation, withRegionWise}
 use Rattle.slots.specs.Slots.{slotAt, withSlot, isOpen, holding}
 use Rattle.held.specs.declared.Held.{Held}
 use Rattle.slots.specs.declared.Slots.{Slots}
@@ -24,35 +26,35 @@ use Rattle.feeding.specs.declared.Fed.{Fed}
 
 -- "kinds 45, 47, 150, 154 and 155 are held, one of each: a taken message replaces the held one", and the others are not;
 -- p is the record of kind 155 that stands beside the message
-abbrev pub heldWith : Held → Message → Packing → Held
+abbrev pub heldWith : Held → Message → RegionWise → Held
 heldWith h (message.FramePacking x) p = withFramePacking h x
 heldWith h (message.Orientation x) p = withOrientation h x
 heldWith h (message.Equirectangular x) p = withEquirectangular h x
 heldWith h (message.Rotation x) p = withRotation h x
-heldWith h message.RegionWise p = withRegions h p
+heldWith h message.RegionWise p = withRegionWise h p
 heldWith h (message.Alpha x) p = h
 heldWith h message.Depth p = h
 heldWith h (message.Registered x) p = h
 heldWith h message.Unregistered p = h
 heldWith h message.Nothing p = h
 
--- kinds 165, 177, 4 and 5 "are read and not held"
-pub data Unheld : Kind → Type 0 where
-  alpha : Unheld kinds.Alpha
-  depth : Unheld kinds.Depth
-  registered : Unheld kinds.Registered
-  unregistered : Unheld kinds.Unregistered
+-- the five by their numbers; the other kinds "are read and not held"
+abbrev pub isHeld : ℕ → Bool
+isHeld n = eqb n 45 || (eqb n 47 || (eqb n 150 || (eqb n 154 || eqb n 155)))
+
+abbrev pub Unheld : Kind → Type 0
+Unheld k = isHeld (number k) ≡ false
 
 -- what is set aside or refused leaves them
-abbrev pub heldBy : Held → Outcome → Message → Packing → Held
+abbrev pub heldBy : Held → Outcome → Message → RegionWise → Held
 heldBy h Taken m p = heldWith h m p
 heldBy h SetAside m p = h
 heldBy h (Refused r) m p = h
 
 unfoldable pub heldAfter : Held → Answer → Held
-heldAfter h a = heldBy h (a .outcome) (a .message) (a .regions)
+heldAfter h a = heldBy h (a .outcome) (a .message) (a .beside .«region_wise»)
 
--- 8 comes with the zeros of the kind asked for, and with no fields where that is none of the nine
+-- 8 comes with the zeros of the kind asked for, and with no fields where that is none of those listed
 abbrev pub shutAs : Named → Answer
 shutAs (Listed k) = refusedAs k bySlot
 shutAs Unlisted = plain (Refused bySlot) message.Nothing 0

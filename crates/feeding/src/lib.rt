@@ -5,22 +5,22 @@ use answers::Outcome;
 use answers::kind::Named;
 use bits::refusal::Refusal;
 use held::Held;
+use kind_region_wise::RegionWise;
 use reader::payload;
-use regions::Packing;
 use slots::Slots;
 ghost use mathlib.Core.Path.{_≡_};
 ghost use Rattle.feeding.specs.Feed.{heldWith, heldBy, shutAnswer, shutTo, fedTo};
 
 // What a taken message leaves of the held records; the record of kind 155 stands beside its message.
-fn held_with(held: Held, message: Message, regions: Packing) -> Held
-    ensures { λ r. ⌜ r ≡ heldWith held message regions ⌝ }
+fn held_with(held: Held, message: Message, region_wise: RegionWise) -> Held
+    ensures { λ r. ⌜ r ≡ heldWith held message «region_wise» ⌝ }
 {
     match message {
         Message::FramePacking(x) => held.with_frame_packing(x),
         Message::Orientation(x) => held.with_orientation(x),
         Message::Equirectangular(x) => held.with_equirectangular(x),
         Message::Rotation(x) => held.with_rotation(x),
-        Message::RegionWise => held.with_regions(regions),
+        Message::RegionWise => held.with_region_wise(region_wise),
         Message::Alpha(_) => held,
         Message::Depth => held,
         Message::Registered(_) => held,
@@ -30,17 +30,17 @@ fn held_with(held: Held, message: Message, regions: Packing) -> Held
 }
 
 // What an answer leaves of them, by its outcome: only a taken message changes them.
-fn held_by(held: Held, outcome: Outcome, message: Message, regions: Packing) -> Held
-    ensures { λ r. ⌜ r ≡ heldBy held outcome message regions ⌝ }
+fn held_by(held: Held, outcome: Outcome, message: Message, region_wise: RegionWise) -> Held
+    ensures { λ r. ⌜ r ≡ heldBy held outcome message «region_wise» ⌝ }
 {
     match outcome {
-        Outcome::Taken => held_with(held, message, regions),
+        Outcome::Taken => held_with(held, message, region_wise),
         Outcome::SetAside => held,
         Outcome::Refused(_) => held,
     }
 }
 
-// Refusal 8, with the zeros of the kind asked for, if it is one of the nine.
+// Refusal 8, with the zeros of the kind asked for, if it is listed.
 fn shut(kind: u64) -> Answer
     ensures { λ r. ⌜ r ≡ shutAnswer kind ⌝ }
 {
@@ -81,8 +81,8 @@ pub fn feed(mut slots: Slots, n: u64, kind: u64, size: u64, bytes: &[u8]) -> Fed
         let held = here.held;
         let outcome = answer.outcome;
         let message = answer.message;
-        let regions = answer.regions;
-        let left = held_by(held, outcome, message, regions);
+        let region_wise = answer.beside.region_wise;
+        let left = held_by(held, outcome, message, region_wise);
         slots.slots[at] = here.holding(left);
         return Fed { answer, slots };
     }

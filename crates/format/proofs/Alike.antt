@@ -1,34 +1,37 @@
--- Codings that agree in every element's meaning are one message; and what demand 3 lets vary agrees in every meaning.
+-- Codings that are alike are of one length, and the plain ones among them are one; and what demand 3 lets vary is alike, and the same message.
 -- Assumes nothing.
 use Prim.Native.Nat.{ℕ, suc, _+_, _^_, _≤_, _<_}
 use mathlib.Core.Path.{_≡_, refl, sym, ap, ap₂, _∙_, subst}
-use mathlib.Core.Logic.{_⊎_, inl, inr}
-use mathlib.Core.Bool.{Bool, true, false}
+use mathlib.Core.Logic.{_↔_, _⊎_, inl, inr}
+use mathlib.Core.Bool.{Bool, true, false, cond}
 use mathlib.Core.List.{List, _∷_, _++_}
 use native.Mathlib.Nat.{pow-suc}
 use native.Mathlib.Omega.{arith}
 use lib.ListN.{length, take, drop, replicate, length-append, length-replicate}
 use lib.Pow.{pow-pos, pow-mono}
 use lib.Seq.{take-at, drop-at}
-use borrow.Author.Tests.{le-ltb}
-use Rattle.bits.specs.Bits.{number}
-use Rattle.bits.specs.Refusals.{Verdict}
+use borrow.Author.Tests.{le-leb, lt-leb}
+use Rattle.bits.specs.Bits.{unsignedOf}
+use Rattle.bits.specs.Refusals.{Verdict, fine}
 use Rattle.bits.specs.Out.{taken}
-use Rattle.bits.specs.Coding.{Shape, bits, golomb, CodedGolomb, CodedShape, shapeFront}
+use Rattle.bits.specs.Coding.{Shape, unsigned, expGolomb, CodedExpGolomb, CodedShape}
+use Rattle.bits.specs.Elements.{shapeFront}
 use Rattle.bits.proofs.BitLaws.{below, number-lt}
-use Rattle.format.specs.Format.{Element, coded, reserved, guardType, shape, meaning, verdict, Format, done, read, run}
+use Rattle.format.specs.Format.{Element, silentIn, silent, handed, verdict, Format, done, read, asks}
+use Rattle.format.specs.Reading.{run}
 use Rattle.format.specs.Coded.{Coded}
-use Rattle.format.specs.Varied.{Means, Alike, Varied, Variation}
+use Rattle.format.specs.Syntax.{ignoredBits, guardType, _must_}
+use Rattle.format.specs.Varied.{Says, Alike, Varied, same, silent-both, Variation}
 use Rattle.format.proofs.Run.{starts-with, run-complete}
 
 -- ---- one element's code at the front of w is the only one
 
-record SameFront (c d : ℕ) (own own′ rest rest′ : List Bool) : Type 0 where
-  code : c ≡ d
-  own-is : own ≡ own′
-  rest-is : rest ≡ rest′
+pub record SameFront (c d : ℕ) (own own′ rest rest′ : List Bool) : Type 0 where
+  pub code : c ≡ d
+  pub own-is : own ≡ own′
+  pub rest-is : rest ≡ rest′
 
-same-front : (h : Shape) (own rest own′ rest′ : List Bool) (c d : ℕ) → own ++ rest ≡ own′ ++ rest′ → CodedShape h own c → CodedShape h own′ d → SameFront c d own own′ rest rest′
+pub same-front : (h : Shape) (own rest own′ rest′ : List Bool) (c d : ℕ) → own ++ rest ≡ own′ ++ rest′ → CodedShape h own c → CodedShape h own′ d → SameFront c d own own′ rest rest′
 same-front h own rest own′ rest′ c d e x y =
     let r : taken c (length own) ≡ taken d (length own′) = sym (starts-with h own c x rest) ∙ ap (shapeFront h) e ∙ starts-with h own′ d y rest′ in
     let n : length own ≡ length own′ = cc in
@@ -39,14 +42,14 @@ same-front h own rest own′ rest′ c d e x y =
     }
 
 -- the codes of one number are of one length: a ue(v) of z zeros means at least 2 ^ z - 1, and less than 2 ^ (z + 1) - 1
-record Bounds (w : List Bool) (c z : ℕ) : Type 0 where
-  low : 2 ^ z ≤ suc c
-  high : suc c < 2 ^ suc z
-  long : length w ≡ z + suc z
+pub record Bounds (w : List Bool) (c z : ℕ) : Type 0 where
+  pub low : 2 ^ z ≤ suc c
+  pub high : suc c < 2 ^ suc z
+  pub long : length w ≡ z + suc z
 
-bounds : (w : List Bool) (c : ℕ) (x : CodedGolomb w c) → Bounds w c (x .zeros)
+pub bounds : (w : List Bool) (c : ℕ) (x : CodedExpGolomb w c) → Bounds w c (x .zeros)
 bounds w c x =
-    let n : number (x .last) < 2 ^ x .zeros = rw (x .long) at (number-lt (x .last)) in
+    let n : unsignedOf (x .last) < 2 ^ x .zeros = rw (x .long) at (number-lt (x .last)) in
     let p = pow-pos (x .zeros) in
     record {
       low = omega (arith, x .says);
@@ -63,68 +66,71 @@ not-less {w} {v} {c} {y} {z} a b h =
     omega (arith, a .high, b .low)
 
 one-length : (h : Shape) (w v : List Bool) (c : ℕ) → CodedShape h w c → CodedShape h v c → length w ≡ length v
-one-length (bits n) w v c x y = x .long ∙ sym (y .long)
-one-length golomb w v c x y = go (bounds w c x) (bounds v c y) (below (x .zeros) (y .zeros)) (below (y .zeros) (x .zeros))
+one-length (unsigned n) w v c x y = x .long ∙ sym (y .long)
+one-length expGolomb w v c x y = go (bounds w c x) (bounds v c y) (below (x .zeros) (y .zeros)) (below (y .zeros) (x .zeros))
   where
     go : Bounds w c (x .zeros) → Bounds v c (y .zeros) → (x .zeros < y .zeros) ⊎ (y .zeros ≤ x .zeros) → (y .zeros < x .zeros) ⊎ (x .zeros ≤ y .zeros) → length w ≡ length v
     go a b (inl l) m = absurd (not-less a b l)
     go a b (inr l) (inl m) = absurd (not-less b a m)
     go a b (inr l) (inr m) = omega (arith, a .long, b .long)
 
--- and so are codes that mean the same, whatever the element
-same-length : (e : Element) (w v : List Bool) (c d : ℕ) → CodedShape (shape e) w c → CodedShape (shape e) v d → meaning e d ≡ meaning e c → length v ≡ length w
-same-length (coded h rule) w v c d x y m = one-length h v w d y (subst (CodedShape h w) (sym m) x)
-same-length (reserved n) w v c d x y m = y .long ∙ sym (x .long)
-same-length (guardType rule) w v c d x y m = y .long ∙ sym (x .long)
+-- and so are codes for which the same is handed out
+same-length : (e : Element) (w v : List Bool) (c d : ℕ) → CodedShape (e .shape) w c → CodedShape (e .shape) v d → handed e d ≡ handed e c → length v ≡ length w
+same-length e w v c d = go (e .shape)
+  where
+    go : (h : Shape) → CodedShape h w c → CodedShape h v d → cond (silentIn h (e .reserved) d) 0 d ≡ cond (silentIn h (e .reserved) c) 0 c → length v ≡ length w
+    go (unsigned n) x y m = y .long ∙ sym (x .long)
+    go expGolomb x y m = one-length expGolomb v w d y (subst (CodedExpGolomb w) (sym m) x)
 
 -- ---- alike
 
-module _ {A : Type 0} where
-  -- Two codings of one format that agree in every element's meaning are codings of one message, of one length.
-  pub alike : (f : Format A) (w v : List Bool) (a : A) → Coded f w a → Alike f w v → Coded f v a × (length v ≡ length w)
-  alike (done b) w v a d l = ((l .1, d .1), ap length (l .1) ∙ sym (ap length (l .0)))
-  alike (read e k) w v a d l =
-      let s = same-front (shape e) (d .own) (d .rest) (l .own) (l .rest) (d .code) (l .code) (sym (d .split) ∙ l .split) (d .element) (l .element) in
-      let other = l .allowed in
-      let m : meaning e (other .code) ≡ meaning e (d .code) = other .same ∙ ap (meaning e) (sym (s .code)) in
-      let f : Coded (k (meaning e (d .code))) (l .rest) a = subst (λ r. Coded (k (meaning e (d .code))) r a) (s .rest-is) (d .follows) in
-      let g : Alike (k (meaning e (d .code))) (l .rest) (l .rest′) = subst (λ c. Alike (k (meaning e c)) (l .rest) (l .rest′)) (sym (s .code)) (l .follows) in
-      let r = alike (k (meaning e (d .code))) (l .rest) (l .rest′) a f g in (
-        record {
-          code = other .code;
-          own = l .own′;
-          rest = l .rest′;
-          split = l .split′;
-          element = other .element;
-          kept = ap (verdict e) m ∙ d .kept;
-          follows = subst (λ x. Coded (k x) (l .rest′) a) (sym m) (r .0);
-        },
-        ap length (l .split′)
-            ∙ length-append (l .own′) (l .rest′)
-            ∙ ap₂ _+_ (same-length e (l .own) (l .own′) (l .code) (other .code) (l .element) (other .element) (other .same)) (r .1)
-            ∙ sym (ap length (l .split) ∙ length-append (l .own) (l .rest)),
-      )
+pub alike-length : {R A : Type 0} (f : Format R A) (w v : List Bool) → Alike f w v → length v ≡ length w
+alike-length (done b) w v l = ap length (l .1) ∙ sym (ap length (l .0))
+alike-length (asks t f) w v l = alike-length f w v l
+alike-length (read e g k) w v l =
+    ap length (l .split′)
+    ∙ length-append (l .own′) (l .rest′)
+    ∙ ap₂ _+_ (same-length e (l .own) (l .own′) (l .code) (l .allowed .code) (l .element) (l .allowed .element) (l .allowed .same)) (alike-length (k (handed e (l .code))) (l .rest) (l .rest′) (l .follows))
+    ∙ sym (ap length (l .split) ∙ length-append (l .own) (l .rest))
 
 -- ---- what may vary
 
-guard-four : (rule : ℕ → Verdict) (c : ℕ) → 4 ≤ c → meaning (guardType rule) c ≡ 4
-guard-four rule c h = rw (le-ltb c 4 h)
+-- the other bits are a code for which the same is handed out, and which is judged the same
+record Instead (e : Element) (v : List Bool) (c : ℕ) : Type 0 where
+  code : ℕ
+  element : CodedShape (e .shape) v code
+  hands : handed e code ≡ handed e c
+  judges : verdict e code ≡ verdict e c
 
-varied-means : (e : Element) (w v : List Bool) (c : ℕ) → CodedShape (shape e) w c → Varied e w v → Means e v c
-varied-means (coded h rule) w v c x s = record { code = c; element = subst (λ b. CodedShape h b c) (sym s) x; same = refl }
-varied-means (reserved n) w v c x s = record { code = number v; element = record { long = s ∙ x .long; says = refl }; same = refl }
-varied-means (guardType rule) w v c x (inl s) = record { code = c; element = subst (λ b. CodedShape (bits 3) b c) (sym s) x; same = refl }
-varied-means (guardType rule) w v c x (inr s) =
-    record {
-      code = number v;
-      element = record { long = s .2 ∙ x .long; says = refl };
-      same = guard-four rule (number v) (s .1) ∙ sym (guard-four rule c (subst (λ n. 4 ≤ n) (x .says) (s .0)));
-    }
+instead : (e : Element) (w v : List Bool) (c : ℕ) → CodedShape (e .shape) w c → Varied e w v c → Instead e v c
+instead e w v c x (same s) = record { code = c; element = subst (λ b. CodedShape (e .shape) b c) (sym s) x; hands = refl; judges = refl }
+instead e w v c x (silent-both d y s t) =
+    record { code = d; element = y; hands = ap (λ b. cond b 0 d) t ∙ sym (ap (λ b. cond b 0 c) s); judges = ap (λ b. cond b fine (e .rule d)) t ∙ sym (ap (λ b. cond b fine (e .rule c)) s) }
 
-module _ {A : Type 0} where
-  pub variation-alike : (f : Format A) (w v : List Bool) → Variation f w v → Alike f w v
+-- In the words of demand 3: any bits may stand in place of ignored ones, and any code from 4 on in place of a guard band type from 4 on.
+pub ignored-vary : (n : ℕ) (w v : List Bool) (c : ℕ) → length v ≡ n → Varied (ignoredBits n) w v c
+ignored-vary n w v c l = silent-both (unsignedOf v) (record { long = l; says = refl }) refl refl
+
+pub guards-vary : (rule : ℕ → Verdict) (w v : List Bool) (c : ℕ) → length v ≡ 3 → 4 ≤ c → 4 ≤ unsignedOf v → Varied (guardType must rule) w v c
+guards-vary rule w v c l x y = silent-both (unsignedOf v) (record { long = l; says = refl }) (le-leb 4 c x) (le-leb 4 (unsignedOf v) y)
+
+-- And plain are, of ignored bits, zeros, and of guard band types those below 4.
+pub ignored-plain : (n c : ℕ) → (handed (ignoredBits n) c ≡ c) ↔ (c ≡ 0)
+ignored-plain n c = (sym, sym)
+
+pub guard-plain : (rule : ℕ → Verdict) (c : ℕ) → (handed (guardType must rule) c ≡ c) ↔ (c < 4)
+guard-plain rule c = (λ h. go (below c 4) h, λ h. rw (lt-leb 4 c h))
+  where
+    go : (c < 4) ⊎ (4 ≤ c) → handed (guardType must rule) c ≡ c → c < 4
+    go (inl l) h = l
+    go (inr l) h = let z : 0 ≡ c = sym (ap (λ t. cond t 0 c) (le-leb 4 c l)) ∙ h in omega arith
+
+module _ {R A : Type 0} where
+  pub variation-alike : (f : Format R A) (w v : List Bool) → Variation f w v → Alike f w v
   variation-alike (done a) w v x = x
-  variation-alike (read e k) w v x =
+  variation-alike (asks t f) w v x = variation-alike f w v x
+  variation-alike (read e g k) w v x =
+      let i = instead e (x .own) (x .own′) (x .code) (x .element) (x .allowed) in
       record {
         code = x .code;
         own = x .own;
@@ -134,15 +140,31 @@ module _ {A : Type 0} where
         split = x .split;
         split′ = x .split′;
         element = x .element;
-        allowed = varied-means e (x .own) (x .own′) (x .code) (x .element) (x .allowed);
-        follows = variation-alike (k (meaning e (x .code))) (x .rest) (x .rest′) (x .follows);
+        allowed = record { code = i .code; element = i .element; same = i .hands };
+        follows = variation-alike (k (handed e (x .code))) (x .rest) (x .rest′) (x .follows);
       }
 
-  -- So a variation of a message, with whatever follows it, is read as the same message, in as many bits.
-  pub varied-taken : (f : Format A) (w v : List Bool) (a : A) → Coded f w a → Variation f w v → (rest : List Bool) → run f (v ++ rest) ≡ taken a (length w)
-  varied-taken f w v a d x rest =
-      let r = alike f w v a d (variation-alike f w v x) in
-      run-complete f v (r .0) rest ∙ ap (taken a) (r .1)
+  -- a variation of a message is the same message
+  pub varied-coded : (f : Format R A) (w v : List Bool) (a : A) → Coded f w a → Variation f w v → Coded f v a
+  varied-coded (done b) w v a d x = (x .1, d .1)
+  varied-coded (asks t f) w v a d x = varied-coded f w v a d x
+  varied-coded (read e g k) w v a d x =
+      let s = same-front (e .shape) (d .own) (d .rest) (x .own) (x .rest) (d .code) (x .code) (sym (d .split) ∙ x .split) (d .element) (x .element) in
+      let i = instead e (x .own) (x .own′) (x .code) (x .element) (x .allowed) in
+      let c : Coded (k (handed e (x .code))) (x .rest) a = subst (λ r. Coded (k (handed e (x .code))) r a) (s .rest-is) (subst (λ n. Coded (k (handed e n)) (d .rest) a) (s .code) (d .follows)) in
+      record {
+        code = i .code;
+        own = x .own′;
+        rest = x .rest′;
+        split = x .split′;
+        element = i .element;
+        judged = i .judges ∙ ap (verdict e) (sym (s .code)) ∙ d .judged;
+        follows = subst (λ m. Coded (k m) (x .rest′) a) (sym (i .hands)) (varied-coded (k (handed e (x .code))) (x .rest) (x .rest′) a c (x .follows));
+      }
 
-  pub varied-length : (f : Format A) (w v : List Bool) (a : A) → Coded f w a → Variation f w v → length v ≡ length w
-  varied-length f w v a d x = alike f w v a d (variation-alike f w v x) .1
+  pub varied-length : (f : Format R A) (w v : List Bool) → Variation f w v → length v ≡ length w
+  varied-length f w v x = alike-length f w v (variation-alike f w v x)
+
+  -- So a variation of a message, with whatever follows it, is read as the same message, in as many bits.
+  pub varied-taken : (f : Format R A) (w v : List Bool) (a : A) → Coded f w a → Variation f w v → (rest : List Bool) → run f (v ++ rest) ≡ taken a (length w)
+  varied-taken f w v a d x rest = run-complete f v (varied-coded f w v a d x) rest ∙ ap (taken a) (varied-length f w v x)

@@ -9,3 +9,8 @@ pub mod ReaderLaws
 pub mod Always
 pub mod Worked
 pub mod Determined
+pub mod Codes
+pub mod Bytes
+pub mod Writing
+pub mod Faithful
+pub mod FaithfulParts

@@ -9,39 +9,40 @@ use lib.Dec.{leb}
 use borrow.Author.Tests.{le-leb, lt-leb, leb-true}
 use Rattle.bits.specs.Refusals.{broken, Verdict, fine, against}
 use Rattle.bits.specs.Out.{Out, taken, refused, after, refusalIn}
-use Rattle.bits.specs.Coding.{Shape, bits, shapeAt}
+use Rattle.bits.specs.Elements.{uAt, ueAt, shapeAt}
 use Rattle.bits.specs.declared.refusal.Refusal.the-variants.{Rule}
 use Rattle.bits.specs.declared.read.Onward.{Onward}
 use Rattle.bits.specs.declared.read.Onward.the-variants.{Next, Refused}
 use Rattle.bits.proofs.ElementLaws.{u-below}
 use Rattle.bits.proofs.Reading.{not-taken}
-use Rattle.format.specs.Format.{Element, coded, shape, meaning, verdict, ruled, elementAt, done, read, runAt}
-use Rattle.format.specs.Syntax.{any, _unless_, atMost}
+use Rattle.format.specs.Format.{Element, handed, verdict, done}
+use Rattle.format.specs.Reading.{ruled, elementAt, runAt}
+use Rattle.format.specs.Syntax.{u, ue, _at_, _must_, _unless_, atMost}
 use Rattle.format.proofs.Steps.{judged-at, step, step-code, step-done}
 use Rattle.bits.specs.Answers.{onwardRefusal}
 
 -- ---- an element's rule
 
--- an element that was taken: its code was read, and its rule finds its meaning fine
-taken-from : (e : Element) (s : List ℕ) (p : ℕ) {m q : ℕ} → elementAt e s p ≡ taken m q → (c : ℕ) × (shapeAt (shape e) s p ≡ taken c q) × (meaning e c ≡ m) × (verdict e m ≡ fine)
-taken-from e s p {m} {q} h = from-code (shapeAt (shape e) s p) refl (sym (judged-at e s p) ∙ h)
+-- an element that was taken: its code was read, and its rule finds it fine
+taken-from : (e : Element) (s : List ℕ) (p : ℕ) {m q : ℕ} → elementAt e s p ≡ taken m q → (c : ℕ) × (shapeAt (e .shape) s p ≡ taken c q) × (handed e c ≡ m) × (verdict e c ≡ fine)
+taken-from e s p {m} {q} h = from-code (shapeAt (e .shape) s p) refl (sym (judged-at e s p) ∙ h)
   where
-    by-verdict : (v : Verdict) (c t : ℕ) → shapeAt (shape e) s p ≡ taken c t → verdict e (meaning e c) ≡ v → ruled v (meaning e c) t ≡ taken m q
-        → (c : ℕ) × (shapeAt (shape e) s p ≡ taken c q) × (meaning e c ≡ m) × (verdict e m ≡ fine)
+    by-verdict : (v : Verdict) (c t : ℕ) → shapeAt (e .shape) s p ≡ taken c t → verdict e c ≡ v → ruled v (handed e c) t ≡ taken m q
+        → (c : ℕ) × (shapeAt (e .shape) s p ≡ taken c q) × (handed e c ≡ m) × (verdict e c ≡ fine)
     by-verdict fine c t o k r =
-        let same : meaning e c ≡ m = cc in
+        let same : handed e c ≡ m = cc in
         let end : t ≡ q = cc in
-        (c, o ∙ ap (taken c) end, same, ap (verdict e) (sym same) ∙ k)
+        (c, o ∙ ap (taken c) end, same, k)
     by-verdict (against b) c t o k r = not-taken r
 
-    from-code : (o : Out ℕ) → shapeAt (shape e) s p ≡ o → after o (λ c t. ruled (verdict e (meaning e c)) (meaning e c) t) ≡ taken m q
-        → (c : ℕ) × (shapeAt (shape e) s p ≡ taken c q) × (meaning e c ≡ m) × (verdict e m ≡ fine)
-    from-code (taken c t) o r = by-verdict (verdict e (meaning e c)) c t o refl r
+    from-code : (o : Out ℕ) → shapeAt (e .shape) s p ≡ o → after o (λ c t. ruled (verdict e c) (handed e c) t) ≡ taken m q
+        → (c : ℕ) × (shapeAt (e .shape) s p ≡ taken c q) × (handed e c ≡ m) × (verdict e c ≡ fine)
+    from-code (taken c t) o r = by-verdict (verdict e c) c t o refl r
     from-code (refused x) o r = not-taken r
 
 -- a number of n bits is below 2 ^ n, whatever its rule
-pub taken-below : (n : ℕ) (rule : ℕ → Verdict) (s : List ℕ) (p : ℕ) {v q : ℕ} → elementAt (coded (bits n) rule) s p ≡ taken v q → v < 2 ^ n
-taken-below n rule s p e = let t = taken-from (coded (bits n) rule) s p e in subst (λ x. x < 2 ^ n) (t .2) (u-below s p n (t .1))
+pub taken-below : (n : ℕ) (rule : ℕ → Verdict) (s : List ℕ) (p : ℕ) {v q : ℕ} → elementAt (u n must rule) s p ≡ taken v q → v < 2 ^ n
+taken-below n rule s p e = let t = taken-from (u n must rule) s p e in subst (λ x. x < 2 ^ n) (t .2) (u-below s p n (t .1))
 
 -- at most n
 pub most-kept : (n v q : ℕ) → v ≤ n → ruled (atMost n v) v q ≡ taken v q
@@ -57,21 +58,24 @@ at-most-fine n x = go (leb x n) refl
     go true l e = leb-true x n l
     go false l e = let z : _≡_ {A = ℕ} 0 1 = cc in absurd (omega arith)
 
-pub at-most-kept : (h : Shape) (n : ℕ) (s : List ℕ) (p : ℕ) {v q : ℕ} → elementAt (coded h (atMost n)) s p ≡ taken v q → v ≤ n
-at-most-kept h n s p {v} e = at-most-fine n v (taken-from (coded h (atMost n)) s p e .3)
+pub at-most-kept : (n : ℕ) (s : List ℕ) (p : ℕ) {v q : ℕ} → elementAt (ue must atMost n) s p ≡ taken v q → v ≤ n
+at-most-kept n s p {v} e = let t = taken-from (ue must atMost n) s p e in subst (λ x. x ≤ n) (t .2) (at-most-fine n (t .0) (t .3))
 
 -- ---- a format that is one element comes to what the element comes to
 
-done-after : (s : List ℕ) (o : Out ℕ) → after o (λ m q. runAt (done m) s q) ≡ o
-done-after s (taken m q) = step-done m s q
-done-after s (refused r) = refl
+done-after : (R : Type 0) (s : List ℕ) (o : Out ℕ) → after o (λ m q. runAt {R = R} (done m) s q) ≡ o
+done-after R s (taken m q) = step-done R m s q
+done-after R s (refused r) = refl
 
-pub one-element : (e : Element) (s : List ℕ) (p : ℕ) → runAt (read e done) s p ≡ elementAt e s p
-one-element e s p = step e done s p ∙ done-after s (elementAt e s p)
+pub one-element : {R : Type 0} (e : Element) (g : R → ℕ) (s : List ℕ) (p : ℕ) → runAt (e at g) s p ≡ elementAt e s p
+one-element e g s p = step e g done s p ∙ done-after _ s (elementAt e s p)
 
 -- one with no rule
-pub one-code : (h : Shape) (s : List ℕ) (p : ℕ) → runAt (read (coded h any) done) s p ≡ shapeAt h s p
-one-code h s p = step-code (coded h any) done s p ∙ done-after s (shapeAt h s p)
+pub one-u : {R : Type 0} (n : ℕ) (g : R → ℕ) (s : List ℕ) (p : ℕ) → runAt (u n at g) s p ≡ uAt s p n
+one-u n g s p = step-code (u n) g done s p ∙ done-after _ s (uAt s p n)
+
+pub one-ue : {R : Type 0} (g : R → ℕ) (s : List ℕ) (p : ℕ) → runAt (ue at g) s p ≡ ueAt s p
+one-ue g s p = step-code ue g done s p ∙ done-after _ s (ueAt s p)
 
 -- ---- an answer of a value beside where the reading goes on
 

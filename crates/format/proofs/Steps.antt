@@ -8,12 +8,13 @@ use native.Mathlib.Omega.{arith}
 use Rattle.bits.specs.Bits.{from}
 use Rattle.bits.specs.Refusals.{Verdict, fine, against, refusalOf}
 use Rattle.bits.specs.Out.{Out, taken, refused, after, placed, refusalIn}
-use Rattle.bits.specs.Elements.{uAt, ueAt}
-use Rattle.bits.specs.Coding.{Shape, bits, golomb, shapeFront, shapeAt}
+use Rattle.bits.specs.Elements.{uAt, ueAt, shapeFront, shapeAt}
+use Rattle.bits.specs.Coding.{Shape, unsigned, expGolomb}
 use Rattle.bits.specs.declared.refusal.Refusal.{Refusal}
 use Rattle.bits.proofs.BitLaws.{drop-from}
-use Rattle.format.specs.Format.{Element, shape, meaning, verdict, ruled, judged, elementFront, elementAt, Format, done, read, run, runAt, _>>=_, times}
-use Rattle.format.specs.Syntax.{if_then_else_}
+use Rattle.format.specs.Format.{Element, handed, verdict, Format, done, read, asks, _>>=_, _of_, zeros, allZero}
+use Rattle.format.specs.Reading.{ruled, judged, elementFront, elementAt, run, runAt}
+use Rattle.format.specs.Syntax.{whenElse, when, times}
 
 -- ---- one reading after another
 
@@ -27,7 +28,7 @@ module _ {A B : Type 0} where
   after-placed p (taken a n) k g h = h a n
   after-placed p (refused r) k g h = refl
 
-  same-after : (o : Out A) (k g : A → ℕ → Out B) → ((a : A) (q : ℕ) → k a q ≡ g a q) → after o k ≡ after o g
+  pub same-after : (o : Out A) (k g : A → ℕ → Out B) → ((a : A) (q : ℕ) → k a q ≡ g a q) → after o k ≡ after o g
   same-after (taken a q) k g h = h a q
   same-after (refused r) k g h = refl
 
@@ -41,123 +42,158 @@ by-verdict : (v : Verdict) (p m n : ℕ) → placed p (ruled v m n) ≡ ruled v 
 by-verdict fine p m n = refl
 by-verdict (against b) p m n = refl
 
-placed-judged : (e : Element) (p : ℕ) (o : Out ℕ) → placed p (judged e o) ≡ after (placed p o) (λ c q. ruled (verdict e (meaning e c)) (meaning e c) q)
-placed-judged e p (taken c n) = by-verdict (verdict e (meaning e c)) p (meaning e c) n
+placed-judged : (e : Element) (p : ℕ) (o : Out ℕ) → placed p (judged e o) ≡ after (placed p o) (λ c q. ruled (verdict e c) (handed e c) q)
+placed-judged e p (taken c n) = by-verdict (verdict e c) p (handed e c) n
 placed-judged e p (refused r) = refl
 
 shape-at : (h : Shape) (s : List ℕ) (p : ℕ) → placed p (shapeFront h (from s p)) ≡ shapeAt h s p
 unfolding uAt ueAt
-shape-at (bits n) s p = refl
-shape-at golomb s p = refl
+shape-at (unsigned n) s p = refl
+shape-at expGolomb s p = refl
 
-pub judged-at : (e : Element) (s : List ℕ) (p : ℕ) → elementAt e s p ≡ after (shapeAt (shape e) s p) (λ c q. ruled (verdict e (meaning e c)) (meaning e c) q)
+pub judged-at : (e : Element) (s : List ℕ) (p : ℕ) → elementAt e s p ≡ after (shapeAt (e .shape) s p) (λ c q. ruled (verdict e c) (handed e c) q)
 unfolding elementAt elementFront
 judged-at e s p =
-    placed-judged e p (shapeFront (shape e) (from s p))
-    ∙ ap (λ o. after o (λ c q. ruled (verdict e (meaning e c)) (meaning e c) q)) (shape-at (shape e) s p)
+    placed-judged e p (shapeFront (e .shape) (from s p))
+    ∙ ap (λ o. after o (λ c q. ruled (verdict e c) (handed e c) q)) (shape-at (e .shape) s p)
 
 -- what an element comes to from what reading its code came to
-pub element-value : (e : Element) (s : List ℕ) (p : ℕ) {o : Out ℕ} {c q : ℕ} → o ≡ shapeAt (shape e) s p → o ≡ taken c q → elementAt e s p ≡ ruled (verdict e (meaning e c)) (meaning e c) q
-element-value e s p r g = judged-at e s p ∙ ap (λ o. after o (λ c q. ruled (verdict e (meaning e c)) (meaning e c) q)) (sym r ∙ g)
+pub element-value : (e : Element) (s : List ℕ) (p : ℕ) {o : Out ℕ} {c q : ℕ} → o ≡ shapeAt (e .shape) s p → o ≡ taken c q → elementAt e s p ≡ ruled (verdict e c) (handed e c) q
+element-value e s p r g = judged-at e s p ∙ ap (λ o. after o (λ c q. ruled (verdict e c) (handed e c) q)) (sym r ∙ g)
 
-pub element-refused : (e : Element) (s : List ℕ) (p : ℕ) {o : Out ℕ} {t : Refusal} → o ≡ shapeAt (shape e) s p → o ≡ refused t → elementAt e s p ≡ refused t
-element-refused e s p r g = judged-at e s p ∙ ap (λ o. after o (λ c q. ruled (verdict e (meaning e c)) (meaning e c) q)) (sym r ∙ g)
+pub element-refused : (e : Element) (s : List ℕ) (p : ℕ) {o : Out ℕ} {t : Refusal} → o ≡ shapeAt (e .shape) s p → o ≡ refused t → elementAt e s p ≡ refused t
+element-refused e s p r g = judged-at e s p ∙ ap (λ o. after o (λ c q. ruled (verdict e c) (handed e c) q)) (sym r ∙ g)
 
 -- ---- the laws of `runAt`, which stays shut
 
-module _ {A : Type 0} where
-  pub step-done : (a : A) (s : List ℕ) (p : ℕ) → runAt (done a) s p ≡ taken a p
-  unfolding runAt run
-  step-done a s p = ap (taken a) (omega arith)
+-- what follows, if the verdict is fine: of u(n), ue(v) and ignored bits, which have no rule, it always is
+abbrev pub go-on : {A : Type 0} → Verdict → Out A → Out A
+go-on fine o = o
+go-on (against b) o = refused (refusalOf b)
 
-  -- an element, and then what follows its meaning
-  pub step : (e : Element) (k : ℕ → Format A) (s : List ℕ) (p : ℕ) → runAt (read e k) s p ≡ after (elementAt e s p) (λ m q. runAt (k m) s q)
+pub step-done : (R : Type 0) {A : Type 0} (a : A) (s : List ℕ) (p : ℕ) → runAt {R = R} (done a) s p ≡ taken a p
+unfolding runAt run
+step-done R a s p = ap (taken a) (omega arith)
+
+module _ {R A : Type 0} where
+  -- an element, and then what follows it
+  pub step : (e : Element) (g : R → ℕ) (k : ℕ → Format R A) (s : List ℕ) (p : ℕ) → runAt (read e g k) s p ≡ after (elementAt e s p) (λ m q. runAt (k m) s q)
   unfolding runAt run elementAt
-  step e k s p =
+  step e g k s p =
       after-placed p (elementFront e (from s p)) _ _
       (λ m n. ap (λ w. placed p (placed n (run (k m) w))) (drop-from s p n) ∙ placed-placed p n (run (k m) (from s (p + n))))
 
-  -- the same for an element that is read by its code: with no rule, as u(n), ue(v) and reserved bits, `go-on` is what follows
-  abbrev pub go-on : Verdict → Out A → Out A
-  go-on fine o = o
-  go-on (against b) o = refused (refusalOf b)
-
-  pub step-code : (e : Element) (k : ℕ → Format A) (s : List ℕ) (p : ℕ)
-      → runAt (read e k) s p ≡ after (shapeAt (shape e) s p) (λ c q. go-on (verdict e (meaning e c)) (runAt (k (meaning e c)) s q))
-  step-code e k s p =
-      step e k s p
+  -- the same for an element that is read by its code
+  pub step-code : (e : Element) (g : R → ℕ) (k : ℕ → Format R A) (s : List ℕ) (p : ℕ)
+      → runAt (read e g k) s p ≡ after (shapeAt (e .shape) s p) (λ c q. go-on (verdict e c) (runAt (k (handed e c)) s q))
+  step-code e g k s p =
+      step e g k s p
       ∙ ap (λ o. after o (λ m q. runAt (k m) s q)) (judged-at e s p)
-      ∙ after-after (shapeAt (shape e) s p) _ _
-      ∙ same-after (shapeAt (shape e) s p) _ _ (λ c q. go (verdict e (meaning e c)) (meaning e c) q)
+      ∙ after-after (shapeAt (e .shape) s p) _ _
+      ∙ same-after (shapeAt (e .shape) s p) _ _ (λ c q. go (verdict e c) (handed e c) q)
     where
       go : (v : Verdict) (m q : ℕ) → after (ruled v m q) (λ m q. runAt (k m) s q) ≡ go-on v (runAt (k m) s q)
       go fine m q = refl
       go (against b) m q = refl
 
-  -- a choice
-  pub step-yes : {b : Bool} (f g : Format A) (s : List ℕ) (p : ℕ) → b ≡ true → runAt (if b then f else g) s p ≡ runAt f s p
-  step-yes f g s p e = rw e
+  -- what a record must have to be written is passed over
+  pub step-asks : (t : R → Bool) (f : Format R A) (s : List ℕ) (p : ℕ) → runAt (asks t f) s p ≡ runAt f s p
+  unfolding runAt run
+  step-asks t f s p = refl
 
-  pub step-no : {b : Bool} (f g : Format A) (s : List ℕ) (p : ℕ) → b ≡ false → runAt (if b then f else g) s p ≡ runAt g s p
-  step-no f g s p e = rw e
+  -- a part that is there, and one that is absent
+  pub step-yes : {t : Bool} (f : Format R A) (s : List ℕ) (p : ℕ) → t ≡ true → runAt (when t f) s p ≡ runAt f s p
+  step-yes f s p e = rw e
+
+  pub step-no : {t : Bool} (f : Format R A) (s : List ℕ) (p : ℕ) → t ≡ false → runAt (when t f) s p ≡ taken (zeros f) p
+  step-no f s p e = rw e (step-asks (allZero f) (done (zeros f)) s p ∙ step-done R (zeros f) s p)
+
+  -- where something else stands for it
+  pub step-then : {t : Bool} (f : Format R A) (gone : R → Bool) (z : A) (s : List ℕ) (p : ℕ) → t ≡ true → runAt (whenElse t f gone z) s p ≡ runAt f s p
+  step-then f gone z s p e = rw e
+
+  pub step-else : {t : Bool} (f : Format R A) (gone : R → Bool) (z : A) (s : List ℕ) (p : ℕ) → t ≡ false → runAt (whenElse t f gone z) s p ≡ taken z p
+  step-else f gone z s p e = rw e (step-asks gone (done z) s p ∙ step-done R z s p)
 
 -- ---- a format put together from formats is read in that order
 
-pub step-part : {A B : Type 0} (f : Format A) (g : A → Format B) (s : List ℕ) (p : ℕ) → runAt (f >>= g) s p ≡ after (runAt f s p) (λ a q. runAt (g a) s q)
-step-part (done a) g s p = rw (step-done a s p)
-step-part (read e k) g s p =
-    step e (λ m. k m >>= g) s p
+pub step-part : {R A B : Type 0} (f : Format R A) (g : A → Format R B) (s : List ℕ) (p : ℕ) → runAt (f >>= g) s p ≡ after (runAt f s p) (λ a q. runAt (g a) s q)
+step-part {R} (done a) g s p = rw (step-done R a s p)
+step-part (asks b f) g s p = step-asks b (f >>= g) s p ∙ step-part f g s p ∙ ap (λ o. after o (λ a q. runAt (g a) s q)) (sym (step-asks b f s p))
+step-part (read e h k) g s p =
+    step e h (λ m. k m >>= g) s p
     ∙ same-after (elementAt e s p) _ _ (λ m q. step-part (k m) g s q)
     ∙ sym (after-after (elementAt e s p) (λ m q. runAt (k m) s q) (λ a q. runAt (g a) s q))
-    ∙ ap (λ o. after o (λ a q. runAt (g a) s q)) (sym (step e k s p))
+    ∙ ap (λ o. after o (λ a q. runAt (g a) s q)) (sym (step e h k s p))
+
+-- a part that may be absent, where more of the table follows
+module _ {R A B : Type 0} {t : Bool} (f : Format R A) (k : A → Format R B) (s : List ℕ) (p : ℕ) where
+  pub step-there : t ≡ true → runAt (when t f >>= k) s p ≡ runAt (f >>= k) s p
+  step-there e = rw e
+
+  pub step-absent : t ≡ false → runAt (when t f >>= k) s p ≡ runAt (k (zeros f)) s p
+  step-absent e = step-part (when t f) k s p ∙ ap (λ o. after o (λ a q. runAt (k a) s q)) (step-no f s p e)
+
+-- a part of a record is read by its own format
+pub step-own : {R S A : Type 0} (f : Format S A) (h : R → S) (s : List ℕ) (p : ℕ) → runAt (f of h) s p ≡ runAt f s p
+step-own {R} {S} (done a) h s p = step-done R a s p ∙ sym (step-done S a s p)
+step-own (asks b f) h s p = step-asks (λ r. b (h r)) (f of h) s p ∙ step-own f h s p ∙ sym (step-asks b f s p)
+step-own (read e g k) h s p =
+    step e (λ r. g (h r)) (λ m. k m of h) s p
+    ∙ same-after (elementAt e s p) _ _ (λ m q. step-own (k m) h s q)
+    ∙ sym (step e g k s p)
+
+pub step-of : {R S A B : Type 0} (f : Format S A) (h : R → S) (g : A → Format R B) (s : List ℕ) (p : ℕ)
+    → runAt ((f of h) >>= g) s p ≡ after (runAt f s p) (λ a q. runAt (g a) s q)
+step-of f h g s p = step-part (f of h) g s p ∙ ap (λ o. after o (λ a q. runAt (g a) s q)) (step-own f h s p)
 
 -- f, n + 1 times over: once, and then n times
-times-next : {A : Type 0} (n : ℕ) (f : Format A) (s : List ℕ) (p : ℕ)
-    → runAt (times (suc n) f) s p ≡ after (runAt f s p) (λ x q. after (runAt (times n f) s q) (λ xs r. taken (x ∷ xs) r))
+times-next : {A : Type 0} (c n : ℕ) (f : Format A A) (s : List ℕ) (p : ℕ)
+    → runAt (times c (suc n) f) s p ≡ after (runAt f s p) (λ x q. after (runAt (times c n f) s q) (λ xs r. taken (x ∷ xs) r))
 unfolding times
-times-next n f s p =
-    step-part f _ s p
+times-next c n f s p =
+    step-of f _ _ s p
     ∙ same-after (runAt f s p) _ _
-    (λ x q. step-part (times n f) (λ xs. done (x ∷ xs)) s q ∙ same-after (runAt (times n f) s q) _ _ (λ xs r. step-done (x ∷ xs) s r))
+    (λ x q. step-part (times c n f) (λ xs. done (x ∷ xs)) s q ∙ same-after (runAt (times c n f) s q) _ _ (λ xs r. step-done _ (x ∷ xs) s r))
 
 -- A loop that reads f `n` times from p: at q, with xs behind it and f still to be read `left` times.
-pub Ahead : {A : Type 0} (f : Format A) (s : List ℕ) (n p : ℕ) (xs : List A) (left q : ℕ) → Type 0
-Ahead f s n p xs left q = runAt (times n f) s p ≡ after (runAt (times left f) s q) (λ ys r. taken (xs ++ ys) r)
+pub Ahead : {A : Type 0} (f : Format A A) (s : List ℕ) (n p : ℕ) (xs : List A) (left q : ℕ) → Type 0
+Ahead f s n p xs left q = runAt (times n n f) s p ≡ after (runAt (times n left f) s q) (λ ys r. taken (xs ++ ys) r)
 
-module _ {A : Type 0} (f : Format A) (s : List ℕ) (n p : ℕ) where
+module _ {A : Type 0} (f : Format A A) (s : List ℕ) (n p : ℕ) where
   after-taken : (o : Out (List A)) → o ≡ after o (λ ys r. taken ([] ++ ys) r)
   after-taken (taken a q) = refl
   after-taken (refused r) = refl
 
   pub ahead-start : Ahead f s n p [] n p
   unfolding Ahead
-  ahead-start = after-taken (runAt (times n f) s p)
+  ahead-start = after-taken (runAt (times n n f) s p)
 
   -- nothing is left: the whole is what was read
-  pub ahead-end : (xs : List A) (q : ℕ) → Ahead f s n p xs 0 q → runAt (times n f) s p ≡ taken xs q
+  pub ahead-end : (xs : List A) (q : ℕ) → Ahead f s n p xs 0 q → runAt (times n n f) s p ≡ taken xs q
   unfolding Ahead times
-  ahead-end xs q h = h ∙ rw (step-done {A = List A} [] s q) (ap (λ l. taken l q) (append-nil xs))
+  ahead-end xs q h = h ∙ rw (step-done (List A) {A = List A} [] s q) (ap (λ l. taken l q) (append-nil xs))
 
   module _ (xs : List A) (left q : ℕ) (h : Ahead f s n p xs (suc left) q) where
-    opened : runAt (times n f) s p ≡ after (runAt f s q) (λ x t. after (runAt (times left f) s t) (λ ys r. taken (xs ++ (x ∷ ys)) r))
+    opened : runAt (times n n f) s p ≡ after (runAt f s q) (λ x t. after (runAt (times n left f) s t) (λ ys r. taken (xs ++ (x ∷ ys)) r))
     unfolding Ahead
     opened =
         h
-        ∙ ap (λ o. after o (λ ys r. taken (xs ++ ys) r)) (times-next left f s q)
+        ∙ ap (λ o. after o (λ ys r. taken (xs ++ ys) r)) (times-next n left f s q)
         ∙ after-after (runAt f s q) _ _
-        ∙ same-after (runAt f s q) _ _ (λ x t. after-after (runAt (times left f) s t) _ _)
+        ∙ same-after (runAt f s q) _ _ (λ x t. after-after (runAt (times n left f) s t) _ _)
 
     -- the next is refused, and so is the whole
-    pub ahead-stop : {r : Refusal} → runAt f s q ≡ refused r → runAt (times n f) s p ≡ refused r
-    ahead-stop e = opened ∙ ap (λ o. after o (λ x t. after (runAt (times left f) s t) (λ ys r. taken (xs ++ (x ∷ ys)) r))) e
+    pub ahead-stop : {r : Refusal} → runAt f s q ≡ refused r → runAt (times n n f) s p ≡ refused r
+    ahead-stop e = opened ∙ ap (λ o. after o (λ x t. after (runAt (times n left f) s t) (λ ys r. taken (xs ++ (x ∷ ys)) r))) e
 
     -- the next is taken
     pub ahead-step : {x : A} {t : ℕ} → runAt f s q ≡ taken x t → Ahead f s n p (xs ++ (x ∷ [])) left t
     unfolding Ahead
     ahead-step {x} {t} e =
         opened
-        ∙ ap (λ o. after o (λ x t. after (runAt (times left f) s t) (λ ys r. taken (xs ++ (x ∷ ys)) r))) e
-        ∙ same-after (runAt (times left f) s t) _ _ (λ ys r. ap (λ l. taken l r) (sym (append-assoc xs (x ∷ []) ys)))
+        ∙ ap (λ o. after o (λ x t. after (runAt (times n left f) s t) (λ ys r. taken (xs ++ (x ∷ ys)) r))) e
+        ∙ same-after (runAt (times n left f) s t) _ _ (λ ys r. ap (λ l. taken l r) (sym (append-assoc xs (x ∷ []) ys)))
 
 -- ---- the places of a reader's proof
 

@@ -19,12 +19,15 @@ use Rattle.bits.specs.declared.refusal.Refusal.{Refusal}
 use Rattle.bits.specs.declared.refusal.Refusal.the-variants.{Tail}
 use Rattle.bits.proofs.BitLaws.{drop-from}
 use Rattle.bits.proofs.Reading.{tail-permitted, tail-refused, tail-seen}
-use Rattle.format.specs.Format.{Element, Format, done, read, meaning, run, runAt}
+use Rattle.format.specs.Format.{Element, Format, done, read, asks, handed}
+use Rattle.format.specs.Reading.{run, runAt}
 use Rattle.format.specs.Coded.{Coded}
 use Rattle.format.specs.Stopped.{StoppedHere, Stopped}
 use Rattle.format.specs.Stopped as stopped
 use Rattle.format.specs.Varied.{Variation}
-use Rattle.format.specs.Whole.{Form, Reading, taken, setAside, refused, given, ended, ending, closed, whole, Follows, Holds, BadTail, Seen, holds, stops, tail}
+use Rattle.format.specs.Whole.{Reading, taken, setAside, refused, given, ended, ending, closed, whole}
+use Rattle.format.specs.Form.{Form}
+use Rattle.format.specs.Holds.{Follows, Holds, BadTail, Seen, holds, stops, tail}
 use Rattle.format.proofs.Run.{run-sound, run-complete, run-stopped}
 use Rattle.format.proofs.Alike.{varied-taken, varied-length}
 use Rattle.format.proofs.Payload as payload
@@ -34,16 +37,17 @@ use Rattle.format.proofs.Payload as payload
 here-which : (e : Element) (w : List Bool) {r : Refusal} → StoppedHere e w r → OfElement r
 here-which e w (stopped.short d) = short
 here-which e w (stopped.zeros d) = zeros
-here-which e w (stopped.rule {b} d) = go b
+here-which e w (stopped.rule {x} d) = go x
   where
     go : (b : Breach) → OfElement (refusalOf b)
     go broken = rule
     go tooMany = regions
 
-pub stopped-which : {A : Type 0} (f : Format A) (w : List Bool) (r : Refusal) → Stopped f w r → OfElement r
+pub stopped-which : {R A : Type 0} (f : Format R A) (w : List Bool) (r : Refusal) → Stopped f w r → OfElement r
 stopped-which (done a) w r d = absurd d
-stopped-which (read e k) w r (inl d) = here-which e w d
-stopped-which (read e k) w r (inr d) = stopped-which (k (meaning e (d .code))) (d .rest) r (d .follows)
+stopped-which (asks b f) w r d = stopped-which f w r d
+stopped-which (read e g k) w r (inl d) = here-which e w d
+stopped-which (read e g k) w r (inr d) = stopped-which (k (handed e (d .code))) (d .rest) r (d .follows)
 
 not-tail : {X : Type 0} {r : Refusal} → OfElement r → r ≡ Tail → X
 not-tail short e = let z : _≡_ {A = ℕ} 0 1 = cc in absurd (omega arith)
@@ -183,7 +187,7 @@ module _ {A : Type 0} where
   unfolding whole
   varied-whole k w a e d message rest e′ v f =
       ap (closed k (message ++ rest)) (varied-taken (k .table) (d .message) message a (d .coded) v rest)
-      ∙ ap (λ t. ended (k .aside) a (ending (k .tailed) t)) (drop-at message rest (length (d .message)) (varied-length (k .table) (d .message) message a (d .coded) v))
+      ∙ ap (λ t. ended (k .aside) a (ending (k .tailed) t)) (drop-at message rest (length (d .message)) (varied-length (k .table) (d .message) message v))
       ∙ ap (ended (k .aside) a) (ending-iff (k .tailed) rest e′ .1 f)
 
   -- ---- at the payload's positions, for the code

@@ -1,7 +1,12 @@
--- The language of tables, and what its theorems speak of.
+-- The language of tables; what they say of bits; reading and writing by them.
 pub mod Format
+pub mod Syntax
+pub mod Form
 pub mod Coded
 pub mod Stopped
 pub mod Varied
+pub mod Holds
+pub mod Reading
 pub mod Whole
-pub mod Syntax
+pub mod Writing
+pub mod Faithful

@@ -1,61 +1,84 @@
--- The words in which the tables of the messages are written: u(n), ue(v), i(32), bytes, reserved bits, guard band types, rules, and
--- parts that may be absent.
-use Prim.Native.Nat.{ℕ, _-_, _*_}
+-- The words in which the tables of the messages are written: u(n), ue(v), b(8), i(32), bytes, ignored bits, guard band types, rules, parts that
+-- may be absent, and lists. An element of a table is one line: its name, its descriptor, its rule if it has one, and where its number stands.
+use Prim.Native.Nat.{ℕ, zero, suc, _+_, _-_, _*_}
 use mathlib.Core.Bool.{Bool, true, false, cond, _&&_, _||_}
-use mathlib.Core.List.{List, _++_}
-use lib.ListN.{length, replicate}
-use lib.Dec.{leb, ltb, eqb}
+use mathlib.Core.List.{List, [], _∷_, _++_}
+use lib.ListN.{length, replicate, drop, getD}
+use lib.Dec.{leb, eqb}
 use lib.IntN.{ℤ}
 use lib.Signed.{leZ}
 use Rattle.bits.specs.Refusals.{Breach, broken, Verdict, fine, against}
-use Rattle.bits.specs.Coding.{bits, golomb}
-use Rattle.bits.specs.Signed.{signedOf}
+use Rattle.bits.specs.Coding.{unsigned, expGolomb}
+use Rattle.bits.specs.Signed.{signedOf, twosOf}
 use Rattle.bits.specs.Identifier.{bytesOf}
-use Rattle.format.specs.Format.{coded, reserved, guardType, Format, done, read, _>>=_, times}
+use Rattle.format.specs.Format.{Element, Format, done, read, asks, _>>=_, _of_, zeros, allZero}
 
 -- ---- elements
 
--- the rule that finds every meaning fine
+-- no code is reserved; every code is; and the rule that finds every code fine
+abbrev pub none : ℕ → Bool
+none c = false
+
+abbrev pub every : ℕ → Bool
+every c = true
+
 abbrev pub any : ℕ → Verdict
-any m = fine
+any c = fine
 
-abbrev pub u : ℕ → Format ℕ
-u n = read (coded (bits n) any) done
+abbrev pub u : ℕ → Element
+u n = record { shape = unsigned n; reserved = none; rule = any }
 
-abbrev pub ue : Format ℕ
-ue = read (coded golomb any) done
+abbrev pub ue : Element
+ue = record { shape = expGolomb; reserved = none; rule = any }
 
--- i(32), judged by the number that it is
-abbrev pub i32 : (ℤ → Verdict) → Format ℤ
-i32 rule = read (coded (bits 32) (λ c. rule (signedOf c))) (λ c. done (signedOf c))
+-- a byte
+abbrev pub b : ℕ → Element
+b n = u n
+
+-- a guard band type, u(3): the codes 4 to 7 are reserved
+abbrev pub guardType : Element
+guardType = record { shape = unsigned 3; reserved = leb 4; rule = any }
+
+-- an element whose number stands there in a record
+infixl 40 _at_
+abbrev pub _at_ : {R : Type 0} → Element → (R → ℕ) → Format R ℕ
+e at g = read e g done
+
+-- n bits that are ignored, and written as 0
+abbrev pub ignoredBits : ℕ → Element
+ignoredBits n = record { shape = unsigned n; reserved = every; rule = any }
+
+abbrev pub ignored : {R : Type 0} → ℕ → Format R ℕ
+ignored n = ignoredBits n at (λ r. 0)
+
+-- i(32), judged by the number that it is; `i32 rule of` where it stands
+unfoldable pub i32 : (ℤ → Verdict) → Format ℤ ℤ
+i32 rule = read (record { shape = unsigned 32; reserved = none; rule = λ c. rule (signedOf c) }) twosOf (λ c. done (signedOf c))
+
+-- the number of these bytes, after x
+abbrev pub bytesFrom : ℕ → List ℕ → ℕ
+bytesFrom x [] = x
+bytesFrom x (y ∷ ys) = bytesFrom (x * 256 + y) ys
 
 -- one element of n bytes
-abbrev pub bytes : ℕ → Format (List ℕ)
-bytes n = read (coded (bits (8 * n)) any) (λ v. done (bytesOf n v))
-
--- n reserved bits
-abbrev pub blank : ℕ → Format ℕ
-blank n = read (reserved n) done
-
--- a guard band type
-abbrev pub guard : Format ℕ
-guard = read (guardType any) done
-
--- guard band types 4 to 7, which all mean 4, are handed out as 0
-abbrev pub handed : ℕ → ℕ
-handed m = cond (ltb m 4) m 0
+abbrev pub bytes : {R : Type 0} → ℕ → (R → List ℕ) → Format R (List ℕ)
+bytes n g = read (u (8 * n)) (λ r. bytesFrom 0 (g r)) (λ v. done (bytesOf n v))
 
 -- ---- rules
 
-infixl 50 _unless_ _also_
+infixl 50 _unless_ _also_ _must_
 abbrev pub _unless_ : Breach → Bool → Verdict
-b unless true = fine
-b unless false = against b
+x unless true = fine
+x unless false = against x
 
 -- both are to be fine: the first of two that speaks against
 abbrev pub _also_ : Verdict → Verdict → Verdict
 fine also v = v
-against b also v = against b
+against x also v = against x
+
+-- an element with a rule, after those that it has
+abbrev pub _must_ : Element → (ℕ → Verdict) → Element
+e must rule = record { shape = e .shape; reserved = e .reserved; rule = λ c. e .rule c also rule c }
 
 abbrev pub atLeast : ℕ → ℕ → Verdict
 atLeast n x = broken unless leb n x
@@ -64,42 +87,38 @@ abbrev pub atMost : ℕ → ℕ → Verdict
 atMost n x = broken unless leb x n
 
 abbrev pub between : ℤ → ℤ → ℤ → Verdict
-between a b z = broken unless (leZ a z && leZ z b)
+between x y z = broken unless (leZ x z && leZ z y)
 
 -- of a guard band type: not 0 where its not-used-for-prediction flag is 0
 abbrev pub usable : ℕ → ℕ → Verdict
-usable notUsed m = broken unless (eqb notUsed 1 || leb 1 m)
-
--- What `f must rule` is: a format where a rule can judge what f starts with. Where nothing is read, or reserved bits, which say nothing, it is
--- no format, so that no table can have such a rule.
-abbrev pub Ruled : Format ℕ → Type 0
-Ruled (done a) = Unit {0}
-Ruled (read (coded h rule) k) = Format ℕ
-Ruled (read (reserved n) k) = Unit {0}
-Ruled (read (guardType rule) k) = Format ℕ
-
-infixl 40 _must_
--- an element with a rule, after those that it has
-abbrev pub _must_ : (f : Format ℕ) → (ℕ → Verdict) → Ruled f
-done a must rule = tt
-read (coded h old) k must rule = read (coded h (λ m. old m also rule m)) k
-read (reserved n) k must rule = tt
-read (guardType old) k must rule = read (guardType (λ m. old m also rule m)) k
+usable notUsed c = broken unless (eqb notUsed 1 || leb 1 c)
 
 -- ---- parts
 
-infixr 10 if_then_else_
--- the one where the test holds, and else the other
-abbrev pub if_then_else_ : {A : Type 0} → Bool → A → A → A
-if true then f else g = f
-if false then f else g = g
+-- a part that is there where the test holds; where it is absent, a record has what `gone` says, and z stands for it
+abbrev pub whenElse : {R A : Type 0} → Bool → Format R A → (R → Bool) → A → Format R A
+whenElse t f gone z = cond t f (asks gone (done z))
+
+-- the same of a part whose numbers are 0, each of them, where it is absent
+abbrev pub when : {R A : Type 0} → Bool → Format R A → Format R A
+when t f = whenElse t f (allZero f) (zeros f)
 
 -- ---- lists
+
+-- f, n times over, which are the last n of the first c entries of a record's list
+unfoldable pub times : {A : Type 0} → ℕ → ℕ → Format A A → Format (List A) (List A)
+times c zero f = done []
+times c (suc n) f = f of (λ xs. getD xs (c - suc n) (zeros f)) >>= (λ x. times c n f >>= (λ xs. done (x ∷ xs)))
 
 -- a record's list of `most` entries: those read, and then z in every entry past them
 abbrev pub padded : {A : Type 0} → ℕ → A → List A → List A
 padded most z xs = xs ++ replicate (most - length xs) z
 
--- `count` messages of f, as such a list
-abbrev pub listed : {A : Type 0} → ℕ → A → ℕ → Format A → Format (List A)
-listed most z count f = times count f >>= (λ xs. done (padded most z xs))
+-- all of a list are so
+abbrev pub each : {A : Type 0} → (A → Bool) → List A → Bool
+each t [] = true
+each t (x ∷ xs) = t x && each t xs
+
+-- `count` messages of f, as such a list: in each entry past them every number is 0
+abbrev pub listed : {A : Type 0} → ℕ → ℕ → Format A A → Format (List A) (List A)
+listed most count f = times count count f >>= (λ xs. asks (λ r. each (allZero f) (drop count r)) (done (padded most (zeros f) xs)))

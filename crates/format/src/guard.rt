@@ -5,21 +5,21 @@ use bits::read::ByteRead;
 use bits::refusal::Refusal;
 ghost use mathlib.Core.Path.{_≡_};
 ghost use Rattle.bits.specs.Bits.{Payload};
-ghost use Rattle.bits.specs.Answers.{byteAnswer};
-ghost use Rattle.format.specs.Format.{guardType, elementAt};
-ghost use Rattle.format.specs.Syntax.{usable, handed};
+ghost use Rattle.bits.specs.Answers.{byteOut};
+ghost use Rattle.format.specs.Reading.{elementAt};
+ghost use Rattle.format.specs.Syntax.{guardType, _must_, usable};
 
-// The meaning of a guard band type: 0 to 3, or 4 for each reserved code. A coded 0 breaks the rule where not_used is 0.
+// A guard band type from 0 to 3; 0 for each reserved code. A coded 0 breaks the rule where not_used is 0.
 pub fn guard_type(s: &[u8], c: Cursor, not_used: u8) -> ByteRead
     requires { ⌜ Payload (now s) ⌝ }
-    ensures { λ r. ⌜ byteAnswer r ≡ elementAt (guardType (usable «not_used»)) (now (s .entry)) (c .at) ⌝ }
+    ensures { λ r. ⌜ byteOut r ≡ elementAt (guardType must usable «not_used») (now (s .entry)) (c .at) ⌝ }
 {
     let r = byte(s, c, 3);
     let ByteRead::Value(code, next) = r else {
         return r;
     };
     if 4 <= code {
-        return ByteRead::Value(4, next);
+        return ByteRead::Value(0, next);
     }
     if code == 0 {
         if not_used != 1 {
@@ -27,11 +27,4 @@ pub fn guard_type(s: &[u8], c: Cursor, not_used: u8) -> ByteRead
         }
     }
     r
-}
-
-// What is handed out for it: reserved ones as 0.
-pub fn handed_out(meaning: u8) -> u8
-    ensures { λ r. ⌜ r ≡ handed meaning ⌝ }
-{
-    if meaning < 4 { meaning } else { 0 }
 }

@@ -14,8 +14,8 @@ use Rattle.held.proofs.Held.with_equirectangular.Kinds as with-equirect
 use Rattle.held.proofs.Held.with_equirectangular.Reads as with-equirectangular-reads
 use Rattle.held.proofs.Held.with_rotation.Kinds as with-rotation-kinds
 use Rattle.held.proofs.Held.with_rotation.Reads as with-rotation-reads
-use Rattle.held.proofs.Held.with_regions.Kinds as with-regions-kinds
-use Rattle.held.proofs.Held.with_regions.Reads as with-regions-reads
+use Rattle.held.proofs.Held.with_region_wise.Kinds as with-region-wise-kinds
+use Rattle.held.proofs.Held.with_region_wise.Reads as with-region-wise-reads
 
 pub nothing-determined : Determines 0 nothing-kinds.ps nothing-kinds.r nothing-reads.Post
 nothing-determined κs a x y s t p q = p ∙ sym q
@@ -35,5 +35,5 @@ with-equirectangular-determined κs a x y s t p q = p ∙ sym q
 pub with-rotation-determined : Determines 0 with-rotation-kinds.ps with-rotation-kinds.r with-rotation-reads.Post
 with-rotation-determined κs a x y s t p q = p ∙ sym q
 
-pub with-regions-determined : Determines 0 with-regions-kinds.ps with-regions-kinds.r with-regions-reads.Post
-with-regions-determined κs a x y s t p q = p ∙ sym q
+pub with-region-wise-determined : Determines 0 with-region-wise-kinds.ps with-region-wise-kinds.r with-region-wise-reads.Post
+with-region-wise-determined κs a x y s t p q = p ∙ sym q

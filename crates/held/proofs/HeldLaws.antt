@@ -3,18 +3,20 @@
 use mathlib.Core.Bool.{Bool, true, false}
 use mathlib.Core.Path.{_≡_, refl}
 use lib.Dec.{eqb}
-use Rattle.format.specs.Syntax.{if_then_else_}
+use Rattle.bits.specs.Choice.{if_then_else_}
+use Rattle.format.specs.Syntax.{i32, times}
+use Rattle.kind_region_wise.specs.RegionWise.{region}
 use Rattle.held.specs.Held.{
   noFramePacking,
   noOrientation,
   noEquirectangular,
   noRotation,
-  noPacking,
+  noRegionWise,
   keptFramePacking,
   keptOrientation,
   keptEquirectangular,
   keptRotation,
-  keptPacking,
+  keptRegionWise,
   kept,
 }
 use Rattle.held.specs.declared.Held.{Held}
@@ -25,12 +27,12 @@ again test none h z true e = rw z
 again test none h z false e = rw e
 
 pub kept-again : (h : Held) → kept (kept h) ≡ kept h
-unfolding kept noFramePacking noOrientation noEquirectangular noRotation noPacking keptFramePacking keptOrientation keptEquirectangular keptRotation keptPacking
+unfolding i32 times region kept noFramePacking noOrientation noEquirectangular noRotation noRegionWise keptFramePacking keptOrientation keptEquirectangular keptRotation keptRegionWise
 kept-again h =
     simp (
-      again (λ x. eqb (x .value .layout .persistence) 0) noFramePacking (h .«frame_packing») refl _ refl,
-      again (λ x. eqb (x .value .persistence) 0) noOrientation (h .orientation) refl _ refl,
-      again (λ x. eqb (x .value .persistence) 0) noEquirectangular (h .equirectangular) refl _ refl,
-      again (λ x. eqb (x .value .persistence) 0) noRotation (h .rotation) refl _ refl,
-      again (λ x. eqb (x .value .persistence) 0) noPacking (h .regions) refl _ refl,
+      again (λ x. eqb (x .value .layout .«fp_arrangement_persistence_flag») 0) noFramePacking (h .«frame_packing») refl _ refl,
+      again (λ x. eqb (x .value .«display_orientation_persistence_flag») 0) noOrientation (h .orientation) refl _ refl,
+      again (λ x. eqb (x .value .«erp_persistence_flag») 0) noEquirectangular (h .equirectangular) refl _ refl,
+      again (λ x. eqb (x .value .«sphere_rotation_persistence_flag») 0) noRotation (h .rotation) refl _ refl,
+      again (λ x. eqb (x .value .«rwp_persistence_flag») 0) noRegionWise (h .«region_wise») refl _ refl,
     )

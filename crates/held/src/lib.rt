@@ -1,10 +1,10 @@
 // What a slot holds: of each of five kinds one record, or nothing. Of each kind there is what a taken message leaves,
 // nothing where it cancels; and what a picture leaves, nothing where the persistence flag is 0.
-use equirectangular::Equirectangular;
-use frame_packing::FramePacking;
-use orientation::Orientation;
-use regions::Packing;
-use rotation::Rotation;
+use kind_equirectangular::Equirectangular;
+use kind_frame_packing::FramePacking;
+use kind_orientation::Orientation;
+use kind_region_wise::RegionWise;
+use kind_rotation::Rotation;
 ghost use mathlib.Core.Path.{_≡_};
 ghost use Rattle.held.specs.Held.{
   noFramePacking,
@@ -19,16 +19,16 @@ ghost use Rattle.held.specs.Held.{
   noRotation,
   takenRotation,
   keptRotation,
-  noPacking,
-  takenPacking,
-  keptPacking,
+  noRegionWise,
+  takenRegionWise,
+  keptRegionWise,
   nothing,
   kept,
   withFramePacking,
   withOrientation,
   withEquirectangular,
   withRotation,
-  withRegions,
+  withRegionWise,
 };
 
 // on is 1 where a record is held, here and below. A record of zeros is a message too, so nothing has a mark of its own.
@@ -49,7 +49,7 @@ impl HeldFramePacking {
     fn taken(x: FramePacking) -> HeldFramePacking
         ensures { λ r. ⌜ r ≡ takenFramePacking x ⌝ }
     {
-        if x.cancel != 0 {
+        if x.fp_arrangement_cancel_flag != 0 {
             return HeldFramePacking::nothing();
         }
         HeldFramePacking { on: 1, value: x }
@@ -58,7 +58,7 @@ impl HeldFramePacking {
     fn kept(self) -> HeldFramePacking
         ensures { λ r. ⌜ r ≡ keptFramePacking self ⌝ }
     {
-        if self.value.layout.persistence == 0 {
+        if self.value.layout.fp_arrangement_persistence_flag == 0 {
             return HeldFramePacking::nothing();
         }
         self
@@ -82,7 +82,7 @@ impl HeldOrientation {
     fn taken(x: Orientation) -> HeldOrientation
         ensures { λ r. ⌜ r ≡ takenOrientation x ⌝ }
     {
-        if x.cancel != 0 {
+        if x.display_orientation_cancel_flag != 0 {
             return HeldOrientation::nothing();
         }
         HeldOrientation { on: 1, value: x }
@@ -91,7 +91,7 @@ impl HeldOrientation {
     fn kept(self) -> HeldOrientation
         ensures { λ r. ⌜ r ≡ keptOrientation self ⌝ }
     {
-        if self.value.persistence == 0 {
+        if self.value.display_orientation_persistence_flag == 0 {
             return HeldOrientation::nothing();
         }
         self
@@ -115,7 +115,7 @@ impl HeldEquirectangular {
     fn taken(x: Equirectangular) -> HeldEquirectangular
         ensures { λ r. ⌜ r ≡ takenEquirectangular x ⌝ }
     {
-        if x.cancel != 0 {
+        if x.erp_cancel_flag != 0 {
             return HeldEquirectangular::nothing();
         }
         HeldEquirectangular { on: 1, value: x }
@@ -124,7 +124,7 @@ impl HeldEquirectangular {
     fn kept(self) -> HeldEquirectangular
         ensures { λ r. ⌜ r ≡ keptEquirectangular self ⌝ }
     {
-        if self.value.persistence == 0 {
+        if self.value.erp_persistence_flag == 0 {
             return HeldEquirectangular::nothing();
         }
         self
@@ -148,7 +148,7 @@ impl HeldRotation {
     fn taken(x: Rotation) -> HeldRotation
         ensures { λ r. ⌜ r ≡ takenRotation x ⌝ }
     {
-        if x.cancel != 0 {
+        if x.sphere_rotation_cancel_flag != 0 {
             return HeldRotation::nothing();
         }
         HeldRotation { on: 1, value: x }
@@ -157,7 +157,7 @@ impl HeldRotation {
     fn kept(self) -> HeldRotation
         ensures { λ r. ⌜ r ≡ keptRotation self ⌝ }
     {
-        if self.value.persistence == 0 {
+        if self.value.sphere_rotation_persistence_flag == 0 {
             return HeldRotation::nothing();
         }
         self
@@ -165,33 +165,33 @@ impl HeldRotation {
 }
 
 #[repr(C)]
-pub struct HeldPacking {
+pub struct HeldRegionWise {
     pub on: u8,
-    pub value: Packing,
+    pub value: RegionWise,
 }
 
-impl HeldPacking {
-    fn nothing() -> HeldPacking
-        ensures { λ r. ⌜ r ≡ noPacking ⌝ }
+impl HeldRegionWise {
+    fn nothing() -> HeldRegionWise
+        ensures { λ r. ⌜ r ≡ noRegionWise ⌝ }
     {
-        let value = Packing::zero();
-        HeldPacking { on: 0, value }
+        let value = RegionWise::zero();
+        HeldRegionWise { on: 0, value }
     }
 
-    fn taken(x: Packing) -> HeldPacking
-        ensures { λ r. ⌜ r ≡ takenPacking x ⌝ }
+    fn taken(x: RegionWise) -> HeldRegionWise
+        ensures { λ r. ⌜ r ≡ takenRegionWise x ⌝ }
     {
-        if x.cancel != 0 {
-            return HeldPacking::nothing();
+        if x.rwp_cancel_flag != 0 {
+            return HeldRegionWise::nothing();
         }
-        HeldPacking { on: 1, value: x }
+        HeldRegionWise { on: 1, value: x }
     }
 
-    fn kept(self) -> HeldPacking
-        ensures { λ r. ⌜ r ≡ keptPacking self ⌝ }
+    fn kept(self) -> HeldRegionWise
+        ensures { λ r. ⌜ r ≡ keptRegionWise self ⌝ }
     {
-        if self.value.persistence == 0 {
-            return HeldPacking::nothing();
+        if self.value.rwp_persistence_flag == 0 {
+            return HeldRegionWise::nothing();
         }
         self
     }
@@ -203,7 +203,7 @@ pub struct Held {
     pub orientation: HeldOrientation,
     pub equirectangular: HeldEquirectangular,
     pub rotation: HeldRotation,
-    pub regions: HeldPacking,
+    pub region_wise: HeldRegionWise,
 }
 
 impl Held {
@@ -215,7 +215,7 @@ impl Held {
             orientation: HeldOrientation::nothing(),
             equirectangular: HeldEquirectangular::nothing(),
             rotation: HeldRotation::nothing(),
-            regions: HeldPacking::nothing(),
+            region_wise: HeldRegionWise::nothing(),
         }
     }
 
@@ -226,13 +226,13 @@ impl Held {
         let orientation = self.orientation;
         let equirectangular = self.equirectangular;
         let rotation = self.rotation;
-        let regions = self.regions;
+        let region_wise = self.region_wise;
         Held {
             frame_packing: frame_packing.kept(),
             orientation: orientation.kept(),
             equirectangular: equirectangular.kept(),
             rotation: rotation.kept(),
-            regions: regions.kept(),
+            region_wise: region_wise.kept(),
         }
     }
 
@@ -264,10 +264,10 @@ impl Held {
         self
     }
 
-    pub fn with_regions(mut self, x: Packing) -> Held
-        ensures { λ r. ⌜ r ≡ withRegions self x ⌝ }
+    pub fn with_region_wise(mut self, x: RegionWise) -> Held
+        ensures { λ r. ⌜ r ≡ withRegionWise self x ⌝ }
     {
-        self.regions = HeldPacking::taken(x);
+        self.region_wise = HeldRegionWise::taken(x);
         self
     }
 }

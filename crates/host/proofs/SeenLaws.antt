@@ -8,14 +8,13 @@ use lib.Dec.{leb}
 use lib.ListN.{length, take, drop}
 use Rattle.bits.specs.Refusals as refusals
 use Rattle.lent.specs.Lent.{Left, left, over}
-use Rattle.answers.specs.Answer.{numberOf}
+use Rattle.answers.specs.Answer.{answerNumber}
 use Rattle.answers.specs.declared.Answer.{Answer}
 use Rattle.answers.specs.declared.Outcome.{Outcome}
 use Rattle.answers.specs.declared.Outcome.the-variants.{Taken, SetAside, Refused}
 use Rattle.answers.specs.declared.Message.{Message}
 use Rattle.answers.specs.declared.Message.the-variants as message
 use Rattle.reader.specs.Reader.{answerTo}
-use Rattle.reader.specs.User.{startOf}
 use Rattle.reader.proofs.Local.{local}
 use Rattle.slots.specs.Slots.{Eight}
 use Rattle.slots.specs.declared.Slots.{Slots}
@@ -23,7 +22,7 @@ use Rattle.isolation.specs.Runs.{Call, opens, Reply, said, shown, read, tabled,
 use Rattle.isolation.specs.Pairs.{VariedPayload, Pairs}
 use Rattle.isolation.proofs.PairLaws.{varied-answer}
 use Rattle.isolation.proofs.Isolation.{isolated}
-use Rattle.handing.specs.Handing.{recordFields, fieldsOf, handed, wroteBy, wroteFields}
+use Rattle.record_row.specs.Handing.{recordFields, fieldsOf, handedOver, wroteBy, wroteFields}
 use Rattle.host.specs.Part.{partAt, partOf}
 use Rattle.host.specs.Seen.{seen, allSeen, blindly, allBlindly, SeenIsolated, SameButFirst}
 
@@ -55,36 +54,24 @@ seen-isolated k h s t e f cs ds xs ys p q l =
 -- ---- no byte past the stated size has any effect on what an entry answers
 
 module _ (n size : ℕ) (s t : List ℕ) (h : size ≤ length s) (l : size ≤ length t) (e : take size s ≡ take size t) where
-  pub number-local : numberOf (answerTo n size s) ≡ numberOf (answerTo n size t)
-  number-local = ap numberOf (local n size s t h l e)
+  pub number-local : answerNumber (answerTo n size s) ≡ answerNumber (answerTo n size t)
+  number-local = ap answerNumber (local n size s t h l e)
 
   pub row-local : (row : List ℕ) → wroteFields (answerTo n size s) row ≡ wroteFields (answerTo n size t) row
   row-local row = ap (λ a. wroteFields a row) (local n size s t h l e)
 
   pub part-local : partOf n size s ≡ partOf n size t
   unfolding partOf
-  part-local = ap (λ a. partAt (startOf a) size) (local n size s t h l e)
+  part-local = ap (λ a. partAt (a .rest) size) (local n size s t h l e)
 
 -- ---- a varied payload gives the same row but for its first place
 
-record-unextended : (a : Answer) (m : Message) → recordFields (unextended a) m ≡ recordFields a m
-record-unextended a message.Nothing = refl
-record-unextended a (message.FramePacking m) = refl
-record-unextended a (message.Orientation m) = refl
-record-unextended a (message.Equirectangular m) = refl
-record-unextended a (message.Rotation m) = refl
-record-unextended a message.RegionWise = refl
-record-unextended a (message.Alpha m) = refl
-record-unextended a message.Depth = refl
-record-unextended a (message.Registered m) = refl
-record-unextended a message.Unregistered = refl
-
-handed-but-first : (n e d : ℕ) (fields row : List ℕ) → SameButFirst (handed n (e ∷ fields) row) (handed n (d ∷ fields) row)
-unfolding handed
+handed-but-first : (n e d : ℕ) (fields row : List ℕ) → SameButFirst (handedOver n (e ∷ fields) row) (handedOver n (d ∷ fields) row)
+unfolding handedOver
 handed-but-first n e d fields row = go (leb (length (e ∷ fields)) (length row))
   where
     By : Bool → ℕ → Left ℕ
-    By b x = cond b (left n (over (x ∷ fields) row)) (left (refusals.numberOf refusals.byRows) row)
+    By b x = cond b (left n (over (x ∷ fields) row)) (left (refusals.refusalNumber refusals.byRows) row)
 
     go : (b : Bool) → SameButFirst (By b e) (By b d)
     go true = record { answered = refl; long = refl; rest = refl }
@@ -94,8 +81,8 @@ row-unextended : (a : Answer) (row : List ℕ) → SameButFirst (wroteFields a r
 unfolding wroteFields fieldsOf
 row-unextended a row = go (a .outcome)
   where
-    fields : SameButFirst (handed (numberOf a) (fieldsOf a) row) (handed (numberOf a) (fieldsOf (unextended a)) row)
-    fields = rw (record-unextended a (a .message)) (handed-but-first (numberOf a) (a .extension) 0 (recordFields a (a .message)) row)
+    fields : SameButFirst (handedOver (answerNumber a) (fieldsOf a) row) (handedOver (answerNumber a) (fieldsOf (unextended a)) row)
+    fields = handed-but-first (answerNumber a) (a .extension) 0 (recordFields (a .beside) (a .message)) row
 
     go : (o : Outcome) → SameButFirst (wroteBy o a row) (wroteBy o (unextended a) row)
     go Taken = fields

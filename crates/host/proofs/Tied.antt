@@ -8,9 +8,9 @@ use denote.Ref.{now}
 use denote.Triple.Clauses.{AtExit}
 use borrow.Fn.Kinds.{Dens, endedOf}
 use Rattle.lent.specs.Lent.{left}
-use Rattle.rows.specs.Rows.{Table, wrote}
+use Rattle.region_table.specs.Rows.{Table, wrote}
 use Rattle.slots.specs.declared.Slots.{Slots}
-use Rattle.tables.specs.Table.{tableIn}
+use Rattle.region_table.specs.Table.{tableIn}
 use Rattle.isolation.specs.Runs.{opens, closes, sequences, pictures, feeds, tables, tabled, step}
 use Rattle.host.specs.Slot.{leftInNumbers}
 use Rattle.host.specs.Seen.{Seen, called, fed, pictured, cStep}

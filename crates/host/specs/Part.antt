@@ -2,15 +2,14 @@
 use Prim.Native.Nat.{ℕ, _-_}
 use mathlib.Core.List.{List}
 use Rattle.reader.specs.Reader.{answerTo}
-use Rattle.reader.specs.User.{startOf}
-use Rattle.reader.specs.declared.user.Start.{Start}
-use Rattle.reader.specs.declared.user.Start.the-variants.{At, Nowhere}
+use Rattle.answers.specs.declared.Rest.{Rest}
+use Rattle.answers.specs.declared.Rest.the-variants.{From, Nowhere}
 use Rattle.host.specs.declared.Part.{Part}
 
 -- it ends with the payload
-abbrev pub partAt : Start → ℕ → Part
-partAt (At k) size = record { offset = k; length = size - k }
+abbrev pub partAt : Rest → ℕ → Part
+partAt (From k) size = record { offset = k; length = size - k }
 partAt Nowhere size = record { offset = 0; length = 0 }
 
 unfoldable pub partOf : ℕ → ℕ → List ℕ → Part
-partOf n size bytes = partAt (startOf (answerTo n size bytes)) size
+partOf n size bytes = partAt (answerTo n size bytes .rest) size

@@ -3,12 +3,12 @@ use Prim.Native.Nat.{ℕ}
 use mathlib.Core.Path.{_≡_}
 use mathlib.Core.List.{List, [], _∷_}
 use lib.ListN.{length, drop}
-use Rattle.answers.specs.Answer.{numberOf}
+use Rattle.answers.specs.Answer.{answerNumber}
 use Rattle.held.specs.declared.Held.{Held}
-use Rattle.slots.specs.Slots.{answerNumber, freshSlot, slotAt}
+use Rattle.slots.specs.Slots.{callNumber, freshSlot, slotAt}
 use Rattle.slots.specs.declared.Slots.{Slots}
 use Rattle.lent.specs.Lent.{Left}
-use Rattle.rows.specs.Rows.{tabledNumber, tabledRows}
+use Rattle.region_table.specs.Rows.{tabledNumber, tabledRows}
 use Rattle.isolation.specs.Runs.{Call, Reply, said, shown, read, tabled, step, after, repliesAt, ends, replies}
 
 -- the number alone; with the extension's length; with the held records; with how many rows there are, and the numbers in them
@@ -19,9 +19,9 @@ pub data Seen : Type 0 where
   table : (number rows : ℕ) → List ℕ → Seen
 
 abbrev pub seen : Reply → Seen
-seen (said a) = called (answerNumber a)
-seen (shown a h) = pictured (answerNumber a) h
-seen (read a) = fed (numberOf a) (a .extension)
+seen (said a) = called (callNumber a)
+seen (shown a h) = pictured (callNumber a) h
+seen (read a) = fed (answerNumber a) (a .extension)
 seen (tabled t) = table (tabledNumber (t .answer)) (tabledRows (t .answer)) (t .rows)
 
 -- the slots after a call, and what it shows

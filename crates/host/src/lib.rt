@@ -1,20 +1,20 @@
 // What a C player calls to read a payload. A slice is a pointer and then a length; host/bruskelde.h has the C declarations.
 pub mod slot;
 
+use answers::Rest;
 use reader::payload::read;
-use reader::user::Start;
-use verdict::number;
+use reader::verdict::number;
 ghost use mathlib.Core.Path.{_≡_};
-ghost use Rattle.answers.specs.Answer.{numberOf};
+ghost use Rattle.answers.specs.Answer.{answerNumber};
 ghost use Rattle.reader.specs.Reader.{answerTo};
 ghost use Rattle.lent.specs.Lent.{left};
-ghost use Rattle.handing.specs.Handing.{wroteFields};
+ghost use Rattle.record_row.specs.Handing.{wroteFields};
 ghost use Rattle.host.specs.Part.{partOf};
 
 // The number of the answer, for any kind, size and bytes.
 #[no_mangle]
 pub extern "C" fn bruskelde_read(kind: u64, size: u64, bytes: &[u8]) -> u32
-    ensures { λ r. ⌜ r ≡ numberOf (answerTo kind size (now (bytes .entry))) ⌝ }
+    ensures { λ r. ⌜ r ≡ answerNumber (answerTo kind size (now (bytes .entry))) ⌝ }
 {
     number(kind, size, bytes)
 }
@@ -25,7 +25,7 @@ pub extern "C" fn bruskelde_fields(kind: u64, size: u64, bytes: &[u8], row: &mut
     ensures { λ r. ⌜ left r (now (row .exit)) ≡ wroteFields (answerTo kind size (now (bytes .entry))) (now (row .entry)) ⌝ }
 {
     let answer = read(kind, size, bytes);
-    handing::write(row, answer)
+    record_row::handing::write(row, answer)
 }
 
 // A part of the lent bytes, by its first byte and how many there are.
@@ -40,8 +40,9 @@ pub struct Part {
 pub extern "C" fn bruskelde_part(kind: u64, size: u64, bytes: &[u8]) -> Part
     ensures { λ r. ⌜ r ≡ partOf kind size (now (bytes .entry)) ⌝ }
 {
-    let start = Start::of(read(kind, size, bytes));
-    let Start::At(at) = start else {
+    let answered = read(kind, size, bytes);
+    let rest = answered.rest;
+    let Rest::From(at) = rest else {
         return Part {
             offset: 0,
             length: 0,

@@ -6,9 +6,9 @@ ghost use mathlib.Core.Path.{_≡_};
 ghost use lib.ListN.{length};
 ghost use Rattle.slots.specs.Slots.{start, opened, closed, sequenced, pictured};
 ghost use Rattle.lent.specs.Lent.{left};
-ghost use Rattle.rows.specs.Rows.{wrote};
+ghost use Rattle.region_table.specs.Rows.{wrote};
 ghost use Rattle.feeding.specs.Feed.{fedTo};
-ghost use Rattle.tables.specs.Table.{tableIn};
+ghost use Rattle.region_table.specs.Table.{tableIn};
 ghost use Rattle.host.specs.Slot.{inNumbers, fedInNumbers, picturedInNumbers, tabledInNumbers, leftInNumbers};
 
 #[no_mangle]
@@ -113,12 +113,12 @@ pub struct Tabled {
 }
 
 impl Tabled {
-    fn of(t: rows::Tabled) -> Tabled
+    fn of(t: region_table::rows::Tabled) -> Tabled
         ensures { λ r. ⌜ r ≡ tabledInNumbers t ⌝ }
     {
         match t {
-            rows::Tabled::Rows(n) => Tabled { number: 0, rows: n },
-            rows::Tabled::Refused(why) => Tabled {
+            region_table::rows::Tabled::Rows(n) => Tabled { number: 0, rows: n },
+            region_table::rows::Tabled::Refused(why) => Tabled {
                 number: why.number(),
                 rows: 0,
             },
@@ -131,6 +131,6 @@ impl Tabled {
 pub extern "C" fn bruskelde_table(slots: Slots, slot: u64, lent: &mut [u64]) -> Tabled
     ensures { λ r. ⌜ left r (now (lent .exit)) ≡ leftInNumbers (wrote (tableIn slots slot (length (now (lent .entry)))) (now (lent .entry))) ⌝ }
 {
-    let answer = tables::table(slots, slot, lent);
+    let answer = region_table::table(slots, slot, lent);
     Tabled::of(answer)
 }

@@ -6,14 +6,16 @@ use mathlib.Core.Path.{_≡_, refl}
 use mathlib.Core.Logic.{inl, inr}
 use mathlib.Core.Bool.{Bool, true, false}
 use mathlib.Core.List.{List, [], _∷_, _++_}
-use Rattle.bits.specs.Bits.{bitAt, part, from, number}
+use Rattle.bits.specs.Bits.{bitAt, part, from, unsignedOf}
 use Rattle.bits.specs.Refusals.{fine}
 use Rattle.bits.specs.Coding.{CodedShape}
-use Rattle.format.specs.Format.{Element, shape, meaning, verdict}
+use Rattle.format.specs.Format.{Element, handed, verdict}
+use Rattle.format.specs.Syntax.{any}
 use Rattle.format.specs.Coded.{CodedThen, Coded}
-use Rattle.format.specs.Varied.{Both, Variation}
-use Rattle.equirectangular.specs.Equirectangular.{guardBand, equirectangular}
-use Rattle.equirectangular.specs.declared.Equirectangular.{Equirectangular}
+use Rattle.format.specs.Varied.{Both, same, Variation}
+use Rattle.format.proofs.Alike.{ignored-vary, guards-vary}
+use Rattle.kind_equirectangular.specs.Equirectangular.{equirectangular}
+use Rattle.kind_equirectangular.specs.declared.Equirectangular.{Equirectangular}
 use Rattle.answers.specs.Listed.{form, named}
 use Rattle.answers.specs.declared.kind.Kind.the-variants as kinds
 use Rattle.isolation.specs.Runs.{feeds}
@@ -38,15 +40,23 @@ abbrev message′ : List Bool
 message′ = flags (true ∷ true ∷ true ∷ false ∷ false ∷ widths)
 
 abbrev value : Equirectangular
-value = record { cancel = 0; persistence = 1; guarded = 1; «guard_type» = 0; «left_width» = 8; «right_width» = 8 }
+value =
+    record {
+      «erp_cancel_flag» = 0;
+      «erp_persistence_flag» = 1;
+      «erp_guard_band_flag» = 1;
+      «erp_guard_band_type» = 0;
+      «erp_left_guard_band_width» = 8;
+      «erp_right_guard_band_width» = 8;
+    }
 
 -- one element, and what follows it
 coded : {e : Element} {Rest : ℕ → List Bool → Type 0} (c : ℕ) (own rest : List Bool)
-    → CodedShape (shape e) own c → verdict e (meaning e c) ≡ fine → Rest (meaning e c) rest → CodedThen e Rest (own ++ rest)
-coded c own rest d v f = record { code = c; own = own; rest = rest; split = refl; element = d; kept = v; follows = f }
+    → CodedShape (e .shape) own c → verdict e c ≡ fine → Rest (handed e c) rest → CodedThen e Rest (own ++ rest)
+coded c own rest d v f = record { code = c; own = own; rest = rest; split = refl; element = d; judged = v; follows = f }
 
 is-message : Coded (form kinds.Equirectangular .table) message value
-unfolding equirectangular guardBand number
+unfolding equirectangular unsignedOf
 is-message =
     coded 0 (false ∷ []) _ (record { long = refl; says = refl }) refl
     (coded 1 (true ∷ []) _ (record { long = refl; says = refl }) refl
@@ -58,20 +68,20 @@ is-message =
 
 -- one element in both
 both : {e : Element} {Own : List Bool → List Bool → ℕ → Type 0} {Rest : ℕ → List Bool → List Bool → Type 0} (c : ℕ) (own own′ rest rest′ : List Bool)
-    → CodedShape (shape e) own c → Own own own′ c → Rest (meaning e c) rest rest′ → Both e Own Rest (own ++ rest) (own′ ++ rest′)
+    → CodedShape (e .shape) own c → Own own own′ c → Rest (handed e c) rest rest′ → Both e Own Rest (own ++ rest) (own′ ++ rest′)
 both c own own′ rest rest′ d a f =
     record { code = c; own = own; rest = rest; own′ = own′; rest′ = rest′; split = refl; split′ = refl; element = d; allowed = a; follows = f }
 
 varies : Variation (form kinds.Equirectangular .table) message message′
-unfolding equirectangular guardBand number
+unfolding equirectangular unsignedOf
 varies =
-    both 0 (false ∷ []) (false ∷ []) _ _ (record { long = refl; says = refl }) refl
-    (both 1 (true ∷ []) (true ∷ []) _ _ (record { long = refl; says = refl }) refl
-    (both 1 (true ∷ []) (true ∷ []) _ _ (record { long = refl; says = refl }) refl
-    (both 0 (false ∷ false ∷ []) (true ∷ true ∷ []) _ _ (record { long = refl; says = refl }) refl
-    (both 7 (true ∷ true ∷ true ∷ []) (true ∷ false ∷ false ∷ []) _ _ (record { long = refl; says = refl }) (inr (omega arith, omega arith, refl))
-    (both 8 eight eight eight eight (record { long = refl; says = refl }) refl
-    (both 8 eight eight [] [] (record { long = refl; says = refl }) refl (refl, refl)))))))
+    both 0 (false ∷ []) (false ∷ []) _ _ (record { long = refl; says = refl }) (same refl)
+    (both 1 (true ∷ []) (true ∷ []) _ _ (record { long = refl; says = refl }) (same refl)
+    (both 1 (true ∷ []) (true ∷ []) _ _ (record { long = refl; says = refl }) (same refl)
+    (both 0 (false ∷ false ∷ []) (true ∷ true ∷ []) _ _ (record { long = refl; says = refl }) (ignored-vary 2 _ _ _ refl)
+    (both 7 (true ∷ true ∷ true ∷ []) (true ∷ false ∷ false ∷ []) _ _ (record { long = refl; says = refl }) (guards-vary any _ _ _ refl (omega arith) (omega arith))
+    (both 8 eight eight eight eight (record { long = refl; says = refl }) (same refl)
+    (both 8 eight eight [] [] (record { long = refl; says = refl }) (same refl) (refl, refl)))))))
 
 abbrev payload : List ℕ
 payload = 0x67 ∷ 8 ∷ 8 ∷ []

@@ -6,15 +6,15 @@ use native.Mathlib.Omega.{arith}
 use mathlib.Core.Path.{_≡_, ap, subst}
 use mathlib.Core.Bool.{Bool, true, false}
 use mathlib.Core.List.{List, [], _∷_, _++_}
-use Rattle.regions.specs.declared.Packing.{Packing}
-use Rattle.regions.proofs.Kept as regions
-use Rattle.rows.specs.Rows.{Countable}
+use Rattle.kind_region_wise.specs.declared.RegionWise.{RegionWise}
+use Rattle.kind_region_wise.proofs.Kept as regions
+use Rattle.region_table.specs.Rows.{Countable}
 use Rattle.answers.specs.Listed.{Record}
-use Rattle.answers.specs.Answer.{numberOf, made}
+use Rattle.answers.specs.Answer.{answerNumber, made}
 use Rattle.reader.specs.Reader.{answerTo}
 use Rattle.answers.specs.declared.Outcome.the-variants.{Taken}
 use Rattle.reader.proofs.Demand2.{answer-0}
-use Rattle.format.specs.Syntax.{if_then_else_}
+use Rattle.bits.specs.Choice.{if_then_else_}
 use Rattle.held.specs.Held.{nothing}
 use Rattle.slots.specs.Slots.{isOpen}
 use Rattle.slots.specs.declared.Slot.{Slot}
@@ -44,7 +44,7 @@ module _ (k : Lasting) (a : Record (kindOf k)) where
   at-feed kind size bytes y z false w =
       let e = w .is in
       let q : shutAnswer kind ≡ made (kindOf k) Taken a (w .extension) = cc in
-      absurd (omega (arith, shut-8 kind, ap numberOf q))
+      absurd (omega (arith, shut-8 kind, ap answerNumber q))
 
   turn-table : (x : Slot) (c : Call) → Answering (turn x c) → ByTable k a
   turn-table x (opens n) w = absurd (unread k a _ tt w)
@@ -74,7 +74,7 @@ alone-table k a x e cs q =
     let s = holds-when k a x e cs .0 q in
     (told-table k a cs x (s .before) (s .feed) (s .later) (s .split) (s .gives .answers), s .gives .stays)
 
-pub table-countable : (p : Packing) → ByTable regionWise p → cancelOf regionWise p ≡ 0 → Countable p
+pub table-countable : (p : RegionWise) → ByTable regionWise p → cancelOf regionWise p ≡ 0 → Countable p
 table-countable p d z =
     let t = regions.kept (d .0) p (d .1) in
     record { some = t .some z; few = t .few }

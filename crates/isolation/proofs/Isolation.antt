@@ -7,7 +7,7 @@ use mathlib.Core.Bool.{Bool, true, false}
 use mathlib.Core.List.{List, [], _∷_}
 use lib.Dec.{eqb}
 use borrow.Author.Tests.{eqb-true, eqb-false}
-use Rattle.format.specs.Syntax.{if_then_else_}
+use Rattle.bits.specs.Choice.{if_then_else_}
 use Rattle.slots.specs.Slots.{Eight, freshSlot, slotAt}
 use Rattle.slots.specs.declared.Answer.the-variants.{Done}
 use Rattle.slots.specs.declared.Slot.{Slot}

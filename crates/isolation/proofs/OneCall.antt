@@ -5,7 +5,7 @@ use mathlib.Core.Path.{_≡_, refl, ap, _∙_}
 use mathlib.Core.Bool.{Bool, true, false}
 use borrow.Author.Tests.{lt-ltb}
 use Rattle.bits.specs.declared.refusal.Refusal.{Refusal}
-use Rattle.format.specs.Syntax.{if_then_else_}
+use Rattle.bits.specs.Choice.{if_then_else_}
 use Rattle.held.specs.Held.{nothing}
 use Rattle.slots.specs.Slots.{Eight, slotAt, isOpen, freshSlot, closedSlot, ButFor, replaced, opened, pictured}
 use Rattle.slots.specs.declared.Answer.{Answer}
@@ -14,7 +14,7 @@ use Rattle.held.specs.declared.Held.{Held}
 use Rattle.slots.specs.declared.Slot.{Slot}
 use Rattle.slots.specs.declared.Slots.{Slots}
 use Rattle.slots.proofs.Laws as laws
-use Rattle.tables.specs.Table.{tableIn}
+use Rattle.region_table.specs.Table.{tableIn}
 use Rattle.feeding.proofs.FeedLaws.{if-ap, fed-answer, fed-there, fed-but-for, fed-untaken}
 use Rattle.isolation.specs.Runs.{Call, opens, closes, sequences, pictures, feeds, tables, slotOf, Reply, said, shown, read, step, refused, turn, Unchanging}
 

@@ -8,11 +8,12 @@ use mathlib.Core.List.{List, _++_}
 use lib.ListN.{take}
 use Rattle.bits.specs.Refusals.{bySlot}
 use Rattle.bits.specs.Bits.{bitsOf}
-use Rattle.format.specs.Whole.{given, whole, Follows, Holds}
+use Rattle.format.specs.Whole.{given, whole}
+use Rattle.format.specs.Holds.{Follows, Holds}
 use Rattle.format.proofs.Whole.{whole-holds, varied-whole}
-use Rattle.rows.specs.Rows.{refuses}
+use Rattle.region_table.specs.Rows.{refuses}
 use Rattle.answers.specs.Listed.{Record, form, number, readingOf}
-use Rattle.answers.specs.Answer.{numberOf, answerFor}
+use Rattle.answers.specs.Answer.{answerNumber, answerFor}
 use Rattle.reader.specs.Reader.{answerTo, Within}
 use Rattle.answers.specs.declared.kind.Kind.{Kind}
 use Rattle.answers.specs.declared.Answer.{Answer}
@@ -20,19 +21,19 @@ use Rattle.answers.proofs.KindLaws.{one-kind}
 use Rattle.reader.proofs.Calls.{to-payload}
 use Rattle.reader.proofs.Demand2.{number-0, number-20, answer-0, answer-20}
 use Rattle.reader.proofs.Local.{local}
-use Rattle.format.specs.Syntax.{if_then_else_}
+use Rattle.bits.specs.Choice.{if_then_else_}
 use Rattle.slots.specs.Slots.{isOpen, holding}
 use Rattle.held.specs.declared.Held.{Held}
 use Rattle.slots.specs.declared.Slot.{Slot}
 use Rattle.feeding.specs.Feed.{heldAfter, shutAnswer}
-use Rattle.tables.specs.Table.{tableOfHeld}
+use Rattle.region_table.specs.Table.{tableOfHeld}
 use Rattle.isolation.specs.Runs.{Call, Reply, read, tabled, turn, ends, replies, unextended, blind, blinds}
 use Rattle.isolation.specs.Pairs.{IsMessage, VariedPayload, Pair, same, cut, varied, lent, Pairs, end, both}
 
 -- ---- which payloads vary: exactly those answered 0 or 20
 
 pub vary-iff : (kind size : ℕ) (bytes : List ℕ) (k : Kind) → kind ≡ number k
-    → ((numberOf (answerTo kind size bytes) ≡ 0) ⊎ (numberOf (answerTo kind size bytes) ≡ 20)) ↔ IsMessage k size bytes
+    → ((answerNumber (answerTo kind size bytes) ≡ 0) ⊎ (answerNumber (answerTo kind size bytes) ≡ 20)) ↔ IsMessage k size bytes
 vary-iff kind size bytes k listed = (to, λ d. back d (form k .aside (d .value)) refl)
   where
     message : (j : Kind) (a : Record j) (e : ℕ) → Within j kind size bytes → Holds (form j) (bitsOf (take size bytes)) a e → IsMessage k size bytes
@@ -40,7 +41,7 @@ vary-iff kind size bytes k listed = (to, λ d. back d (form k .aside (d .value))
         subst (λ i. IsMessage i size bytes) (one-kind j k (sym (w .0) ∙ listed))
         (record { limit = w .1; long = w .2; value = a; extension = e; holds = d })
 
-    to : (numberOf (answerTo kind size bytes) ≡ 0) ⊎ (numberOf (answerTo kind size bytes) ≡ 20) → IsMessage k size bytes
+    to : (answerNumber (answerTo kind size bytes) ≡ 0) ⊎ (answerNumber (answerTo kind size bytes) ≡ 20) → IsMessage k size bytes
     to (inl z) =
         let r = number-0 kind size bytes .0 z in
         let d = answer-0 kind size bytes (r .0) (r .1) (r .2) .0 (r .3) in
@@ -51,9 +52,9 @@ vary-iff kind size bytes k listed = (to, λ d. back d (form k .aside (d .value))
         message (r .0) (r .1) (r .2) (d .0) (d .1)
 
     back : (d : IsMessage k size bytes) (t : Bool) → form k .aside (d .value) ≡ t
-        → (numberOf (answerTo kind size bytes) ≡ 0) ⊎ (numberOf (answerTo kind size bytes) ≡ 20)
-    back d true t = inr (ap numberOf (answer-20 kind size bytes k (d .value) (d .extension) .1 ((listed, d .limit, d .long), d .holds, t)))
-    back d false t = inl (ap numberOf (answer-0 kind size bytes k (d .value) (d .extension) .1 ((listed, d .limit, d .long), d .holds, t)))
+        → (answerNumber (answerTo kind size bytes) ≡ 0) ⊎ (answerNumber (answerTo kind size bytes) ≡ 20)
+    back d true t = inr (ap answerNumber (answer-20 kind size bytes k (d .value) (d .extension) .1 ((listed, d .limit, d .long), d .holds, t)))
+    back d false t = inl (ap answerNumber (answer-0 kind size bytes k (d .value) (d .extension) .1 ((listed, d .limit, d .long), d .holds, t)))
 
 -- ---- the answers
 

@@ -12,26 +12,25 @@ use Rattle.bits.specs.Refusals.{bySize}
 use borrow.Author.Tests.{eq-eqb, ne-eqb, eqb-true, eqb-false}
 use Rattle.format.specs.Whole.{Reading, taken, setAside, refused as refused-reading}
 use Rattle.answers.specs.Listed.{Record, number, readingOf}
-use Rattle.answers.specs.Answer.{numberOf, made, answerFor, refusedAs, unknown}
+use Rattle.answers.specs.Answer.{answerNumber, made, answerFor, refusedAs, unknown}
 use Rattle.reader.specs.Reader.{answerTo}
-use Rattle.answers.proofs.KindLaws.{made-kind, made-same}
+use Rattle.answers.proofs.KindLaws.{one-kind, made-kind, made-same}
 use Rattle.reader.proofs.Calls as answers
 use Rattle.answers.specs.declared.kind.Kind.{Kind}
-use Rattle.answers.specs.declared.kind.Kind.the-variants as kinds
 use Rattle.answers.specs.declared.Answer.{Answer}
 use Rattle.answers.specs.declared.Outcome.the-variants.{Taken}
-use Rattle.format.specs.Syntax.{if_then_else_}
+use Rattle.bits.specs.Choice.{if_then_else_}
 use Rattle.held.specs.Held.{nothing, kept}
 use Rattle.slots.specs.Slots.{isOpen, holding, freshSlot, closedSlot}
 use Rattle.held.specs.declared.Held.{Held}
 use Rattle.slots.specs.declared.Slot.{Slot}
 use Rattle.slots.specs.declared.Answer.the-variants.{Done}
 use Rattle.slots.proofs.Laws.{apart, fresh-open, fresh-holds, closed-holds, holding-open, holding-holds}
-use Rattle.feeding.specs.Feed.{Unheld, alpha, depth, registered, unregistered, heldAfter, shutAnswer}
+use Rattle.feeding.specs.Feed.{isHeld, Unheld, heldAfter, shutAnswer}
 use Rattle.feeding.proofs.FeedLaws.{untaken-keeps, unheld-keeps, shut-8}
 use Rattle.isolation.specs.Runs.{Call, opens, closes, sequences, pictures, feeds, tables, Reply, said, shown, read, tabled, refused, turn, ends}
-use Rattle.isolation.specs.Lasting.{Lasting, framePacking, orientation, equirectangular, rotation, regionWise, kindOf, cancelOf, persistenceOf, Marked, heldOf, HoldsOf, Told, history, Answers, Gives, Leaves, Leave, Since}
-use Rattle.isolation.proofs.HeldKinds.{none, nothing-of, kept-of, taken-of, other-of, same-kind, unheld-apart}
+use Rattle.isolation.specs.Lasting.{Lasting, kindOf, cancelOf, persistenceOf, Marked, heldOf, HoldsOf, Told, history, Answers, Gives, Leaves, Leave, Since}
+use Rattle.isolation.proofs.HeldKinds.{none, nothing-of, kept-of, taken-of, other-of, same-kind, unheld-apart, sort}
 
 -- ---- what an answer says of the five kinds
 
@@ -47,18 +46,14 @@ unheld-came : (j : Kind) → Unheld j → (b : Record j) (e : ℕ) → Came (ans
 unheld-came j u b e =
     passed (λ h. unheld-keeps h j (taken b e) u) (λ k c f q. unheld-apart j u k (ap number (made-kind j (kindOf k) Taken Taken b c e f q)))
 
+taken-came : (j : Kind) (b : Record j) (e : ℕ) → (isHeld (number j) ≡ false) ⊎ ((k : Lasting) × (number j ≡ number (kindOf k))) → Came (answerFor j (taken b e))
+taken-came j b e (inl u) = unheld-came j u b e
+taken-came j b e (inr w) = subst (λ i. (c : Record i) → Came (answerFor i (taken c e))) (sym (one-kind j (kindOf (w .0)) (w .1))) (λ c. held (w .0) c e refl) b
+
 reading-came : (j : Kind) (x : Reading (Record j)) → Came (answerFor j x)
 reading-came j (setAside b e) = untaken-came _ (λ q. let z : _≡_ {A = ℕ} 0 1 = cc in omega arith)
 reading-came j (refused-reading r) = untaken-came _ (λ q. let z : _≡_ {A = ℕ} 0 1 = cc in omega arith)
-reading-came kinds.FramePacking (taken b e) = held framePacking b e refl
-reading-came kinds.Orientation (taken b e) = held orientation b e refl
-reading-came kinds.Equirectangular (taken b e) = held equirectangular b e refl
-reading-came kinds.Rotation (taken b e) = held rotation b e refl
-reading-came kinds.RegionWise (taken b e) = held regionWise b e refl
-reading-came kinds.Alpha (taken b e) = unheld-came kinds.Alpha alpha b e
-reading-came kinds.Depth (taken b e) = unheld-came kinds.Depth depth b e
-reading-came kinds.Registered (taken b e) = unheld-came kinds.Registered registered b e
-reading-came kinds.Unregistered (taken b e) = unheld-came kinds.Unregistered unregistered b e
+reading-came j (taken b e) = taken-came j b e (sort (number j))
 
 came : (kind size : ℕ) (bytes : List ℕ) → Came (answerTo kind size bytes)
 came kind size bytes = go (answers.call kind size bytes)
@@ -193,7 +188,7 @@ module _ (k : Lasting) (a : Record (kindOf k)) where
   shut-gives : (kind : ℕ) (c : Call) → Gives k a (record { call = c; reply = read (shutAnswer kind) }) → ⊥
   shut-gives kind c g =
       let e = as-made nothing (shutAnswer kind) a (g .answers) in
-      omega (arith, shut-8 kind, ap numberOf e)
+      omega (arith, shut-8 kind, ap answerNumber e)
 
   -- a picture leaves what persists
   pictured-here : (h : Held) → Here (kept h) ↔ (Here h × (persistenceOf k a ≢ 0))

@@ -9,18 +9,18 @@ use lib.Dec.{eqb}
 use borrow.Author.Tests.{eqb-true, eqb-false}
 use Rattle.bits.proofs.BitLaws.{below}
 use Rattle.answers.specs.Listed.{Record}
-use Rattle.regions.specs.List.{most}
-use Rattle.regions.specs.declared.Packing.{Packing}
-use Rattle.rows.specs.Rows.{Countable, Uncountable, tabledNumber}
-use Rattle.rows.proofs.Outcomes.{countable-or-not}
+use Rattle.kind_region_wise.specs.RegionWise.{most}
+use Rattle.kind_region_wise.specs.declared.RegionWise.{RegionWise}
+use Rattle.region_table.specs.Rows.{Countable, Uncountable, tabledNumber}
+use Rattle.region_table.proofs.Outcomes.{countable-or-not}
 use Rattle.held.specs.declared.Held.{Held}
 use Rattle.slots.specs.Slots.{Eight, start, slotAt, isOpen, closedSlot, freshSlot}
 use Rattle.slots.specs.declared.Slot.{Slot}
 use Rattle.slots.specs.declared.Slots.{Slots}
 use Rattle.slots.proofs.Laws.{start-eight, start-closed, slot-past, closed-holds, fresh-holds}
-use Rattle.tables.specs.Table.{tableIn}
-use Rattle.tables.specs.Cases.{packingOf, NoTable, none, uncounted, unpacked, other, Tableless}
-use Rattle.tables.proofs.TableLaws.{when-9}
+use Rattle.region_table.specs.Table.{tableIn}
+use Rattle.region_table.specs.Cases.{regionWiseOf, NoTable, none, uncounted, unpacked, other, Tableless}
+use Rattle.region_table.proofs.TableLaws.{when-9}
 use Rattle.isolation.specs.Runs.{Call, opens, after, only, ends}
 use Rattle.isolation.specs.Lasting.{Lasting, regionWise, kindOf, cancelOf, ByTable, HoldsOf, history, Since}
 use Rattle.isolation.proofs.Isolation.{factors, alone, eight-after}
@@ -42,29 +42,29 @@ some-calls cs n = go (below n 8)
 -- ---- a slot in which every record of kind 155 is one that its table gives
 
 abbrev ByItsTable : Slot → Type 0
-ByItsTable x = (p : Packing) → HoldsOf regionWise p x → ByTable regionWise p × (cancelOf regionWise p ≡ 0)
+ByItsTable x = (p : RegionWise) → HoldsOf regionWise p x → ByTable regionWise p × (cancelOf regionWise p ≡ 0)
 
-count-of : (x : Slot) → ByItsTable x → (p : Packing) → HoldsOf regionWise p x → (1 ≤ p .count) × (p .count ≤ most)
+count-of : (x : Slot) → ByItsTable x → (p : RegionWise) → HoldsOf regionWise p x → (1 ≤ p .«rwp_num_packed_regions») × (p .«rwp_num_packed_regions» ≤ most)
 count-of x t p q = let d = t p q in let c = table-countable p (d .0) (d .1) in (c .some, c .few)
 
 -- a table call on it never meets a count of 0 or above the limit
-countable-of : (x : Slot) → ByItsTable x → x .held .regions .on ≡ 1 → Countable (x .held .regions .value)
+countable-of : (x : Slot) → ByItsTable x → x .held .«region_wise» .on ≡ 1 → Countable (x .held .«region_wise» .value)
 countable-of x t e =
-    let p : Packing = x .held .regions .value in
+    let p : RegionWise = x .held .«region_wise» .value in
     let c = count-of x t p (ap (λ (on : ℕ). record { on = on; value = p }) e) in
     record { some = c .0; few = c .1 }
 
 -- and is refused with 9 exactly where RULES 12 says
-words : (h : Held) → (h .regions .on ≡ 1 → Countable (packingOf h)) → NoTable h ↔ Tableless h
+words : (h : Held) → (h .«region_wise» .on ≡ 1 → Countable (regionWiseOf h)) → NoTable h ↔ Tableless h
 words h k = (to, back)
   where
-    counted : Uncountable (packingOf h) → (b : Bool) → eqb (h .regions .on) 1 ≡ b → Tableless h
-    counted u true e = absurd (countable-or-not (packingOf h) (k (eqb-true _ _ e)) u)
+    counted : Uncountable (regionWiseOf h) → (b : Bool) → eqb (h .«region_wise» .on) 1 ≡ b → Tableless h
+    counted u true e = absurd (countable-or-not (regionWiseOf h) (k (eqb-true _ _ e)) u)
     counted u false e = inl (eqb-false _ _ e)
 
     to : NoTable h → Tableless h
     to (none o) = inl o
-    to (uncounted u) = counted u (eqb (h .regions .on) 1) refl
+    to (uncounted u) = counted u (eqb (h .«region_wise» .on) 1) refl
     to (unpacked m f) = inr (m, inl f)
     to (other m t u) = inr (m, inr (t, u))
 
@@ -90,11 +90,11 @@ holds-from-start k a cs n h = rw (own-calls cs n h) (holds-when k a closedSlot c
 pub held-table : (k : Lasting) (a : Record (kindOf k)) (cs : List Call) (n : ℕ) → HoldsOf k a (slotAt (after start cs) n) → ByTable k a × (cancelOf k a ≡ 0)
 held-table k a cs n q = let x = some-calls cs n in alone-table k a closedSlot closed-holds (x .0) (rw (x .1) at q)
 
-pub held-count : (p : Packing) (cs : List Call) (n : ℕ) → HoldsOf regionWise p (slotAt (after start cs) n) → (1 ≤ p .count) × (p .count ≤ most)
+pub held-count : (p : RegionWise) (cs : List Call) (n : ℕ) → HoldsOf regionWise p (slotAt (after start cs) n) → (1 ≤ p .«rwp_num_packed_regions») × (p .«rwp_num_packed_regions» ≤ most)
 held-count p cs n = count-of (slotAt (after start cs) n) (λ a. held-table regionWise a cs n) p
 
 -- so a table call never meets a held count of 0 or above the limit
-pub held-countable : (cs : List Call) (n : ℕ) → slotAt (after start cs) n .held .regions .on ≡ 1 → Countable (slotAt (after start cs) n .held .regions .value)
+pub held-countable : (cs : List Call) (n : ℕ) → slotAt (after start cs) n .held .«region_wise» .on ≡ 1 → Countable (slotAt (after start cs) n .held .«region_wise» .value)
 held-countable cs n = countable-of (slotAt (after start cs) n) (λ a. held-table regionWise a cs n)
 
 pub nine-from-start : (cs : List Call) (n room : ℕ)
@@ -110,7 +110,7 @@ module _ (n : ℕ) (h : n < 8) (s : Slots) (e : Eight s) (cs xs : List Call) (p 
   pub held-table-in-run : (k : Lasting) (a : Record (kindOf k)) → HoldsOf k a (slotAt (after s cs) n) → ByTable k a × (cancelOf k a ≡ 0)
   held-table-in-run k a q = alone-table k a freshSlot fresh-holds xs (rw (alone n h s e cs xs p .1) at q)
 
-  pub held-count-in-run : (a : Packing) → HoldsOf regionWise a (slotAt (after s cs) n) → (1 ≤ a .count) × (a .count ≤ most)
+  pub held-count-in-run : (a : RegionWise) → HoldsOf regionWise a (slotAt (after s cs) n) → (1 ≤ a .«rwp_num_packed_regions») × (a .«rwp_num_packed_regions» ≤ most)
   held-count-in-run = count-of (slotAt (after s cs) n) (held-table-in-run regionWise)
 
   pub nine-in-run : (room : ℕ)

@@ -8,8 +8,8 @@ use denote.Ref.{now}
 use denote.Triple.Clauses.{AtExit}
 use borrow.Fn.Kinds.{Dens, endedOf}
 use Rattle.lent.specs.Lent.{left}
-use Rattle.rows.specs.Rows.{Table, wrote}
-use Rattle.rows.specs.declared.Tabled.{Tabled}
+use Rattle.region_table.specs.Rows.{Table, wrote}
+use Rattle.region_table.specs.declared.rows.Tabled.{Tabled}
 use Rattle.slots.specs.declared.Called.{Called}
 use Rattle.slots.specs.declared.Pictured.{Pictured}
 use Rattle.slots.specs.declared.Slots.{Slots}
@@ -21,12 +21,12 @@ use Rattle.slots.proofs.Slots.sequence.Kinds as sequence-kinds
 use Rattle.slots.proofs.Slots.sequence.Reads as sequence-reads
 use Rattle.slots.proofs.Slots.picture.Kinds as picture-kinds
 use Rattle.slots.proofs.Slots.picture.Reads as picture-reads
-use Rattle.tables.specs.Table.{tableIn}
+use Rattle.region_table.specs.Table.{tableIn}
 use Rattle.feeding.specs.declared.Fed.{Fed}
 use Rattle.feeding.proofs.feed.Kinds as feed-kinds
 use Rattle.feeding.proofs.feed.Reads as feed-reads
-use Rattle.tables.proofs.table.Kinds as table-kinds
-use Rattle.tables.proofs.table.Reads as table-reads
+use Rattle.region_table.proofs.table.Kinds as table-kinds
+use Rattle.region_table.proofs.table.Reads as table-reads
 use Rattle.isolation.specs.Runs.{opens, closes, sequences, pictures, feeds, tables, Reply, said, shown, read, tabled, step}
 
 -- what a call of crate slots says and leaves

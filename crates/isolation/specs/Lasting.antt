@@ -27,18 +27,18 @@ kindOf rotation = kinds.Rotation
 kindOf regionWise = kinds.RegionWise
 
 abbrev pub cancelOf : (k : Lasting) → Record (kindOf k) → ℕ
-cancelOf framePacking a = a .cancel
-cancelOf orientation a = a .cancel
-cancelOf equirectangular a = a .cancel
-cancelOf rotation a = a .cancel
-cancelOf regionWise a = a .cancel
+cancelOf framePacking a = a .«fp_arrangement_cancel_flag»
+cancelOf orientation a = a .«display_orientation_cancel_flag»
+cancelOf equirectangular a = a .«erp_cancel_flag»
+cancelOf rotation a = a .«sphere_rotation_cancel_flag»
+cancelOf regionWise a = a .«rwp_cancel_flag»
 
 abbrev pub persistenceOf : (k : Lasting) → Record (kindOf k) → ℕ
-persistenceOf framePacking a = a .layout .persistence
-persistenceOf orientation a = a .persistence
-persistenceOf equirectangular a = a .persistence
-persistenceOf rotation a = a .persistence
-persistenceOf regionWise a = a .persistence
+persistenceOf framePacking a = a .layout .«fp_arrangement_persistence_flag»
+persistenceOf orientation a = a .«display_orientation_persistence_flag»
+persistenceOf equirectangular a = a .«erp_persistence_flag»
+persistenceOf rotation a = a .«sphere_rotation_persistence_flag»
+persistenceOf regionWise a = a .«rwp_persistence_flag»
 
 -- some bits are the message a: its kind's table gives it
 abbrev pub ByTable : (k : Lasting) → Record (kindOf k) → Type 0
@@ -54,7 +54,7 @@ heldOf framePacking h = record { on = h .«frame_packing» .on; value = h .«fra
 heldOf orientation h = record { on = h .orientation .on; value = h .orientation .value }
 heldOf equirectangular h = record { on = h .equirectangular .on; value = h .equirectangular .value }
 heldOf rotation h = record { on = h .rotation .on; value = h .rotation .value }
-heldOf regionWise h = record { on = h .regions .on; value = h .regions .value }
+heldOf regionWise h = record { on = h .«region_wise» .on; value = h .«region_wise» .value }
 
 -- the slot holds a of kind k
 abbrev pub HoldsOf : (k : Lasting) → Record (kindOf k) → Slot → Type 0

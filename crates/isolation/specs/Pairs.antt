@@ -5,7 +5,7 @@ use mathlib.Core.Bool.{Bool, true}
 use mathlib.Core.List.{List, [], _∷_, _++_}
 use lib.ListN.{length, take}
 use Rattle.bits.specs.Bits.{mostBytes, bitsOf}
-use Rattle.format.specs.Whole.{Holds, Follows}
+use Rattle.format.specs.Holds.{Holds, Follows}
 use Rattle.format.specs.Varied.{Variation}
 use Rattle.answers.specs.Listed.{Record, form, number}
 use Rattle.answers.specs.declared.kind.Kind.{Kind}

@@ -5,11 +5,11 @@ use mathlib.Core.List.{List, [], _∷_}
 use lib.ListN.{length}
 use lib.Dec.{eqb}
 use Rattle.bits.specs.Refusals.{bySlot}
-use Rattle.rows.specs.Rows.{Table, refuses}
+use Rattle.region_table.specs.Rows.{Table, refuses}
 use Rattle.reader.specs.Reader.{answerTo}
 use Rattle.answers.specs.declared.Answer as reader
 use Rattle.answers.specs.declared.Outcome.the-variants.{Taken}
-use Rattle.format.specs.Syntax.{if_then_else_}
+use Rattle.bits.specs.Choice.{if_then_else_}
 use Rattle.held.specs.Held.{nothing, kept}
 use Rattle.slots.specs.Slots.{freshSlot, closedSlot, isOpen, holding, opened, closed, sequenced, pictured}
 use Rattle.slots.specs.declared.Answer.{Answer}
@@ -18,7 +18,7 @@ use Rattle.held.specs.declared.Held.{Held}
 use Rattle.slots.specs.declared.Slot.{Slot}
 use Rattle.slots.specs.declared.Slots.{Slots}
 use Rattle.feeding.specs.Feed.{heldAfter, shutAnswer, fedTo}
-use Rattle.tables.specs.Table.{tableOfHeld, tableIn}
+use Rattle.region_table.specs.Table.{tableOfHeld, tableIn}
 
 -- a call: on a slot; with a kind, a size and the lent bytes; with the lent numbers
 pub data Call : Type 0 where
@@ -104,7 +104,7 @@ replies x (c ∷ cs) = turn x c .1 ∷ replies (turn x c .0) cs
 
 abbrev pub unextended : reader.Answer → reader.Answer
 unextended a =
-    record { outcome = a .outcome; message = a .message; extension = 0; regions = a .regions; depth = a .depth; unregistered = a .unregistered }
+    record { outcome = a .outcome; message = a .message; extension = 0; rest = a .rest; beside = a .beside }
 
 abbrev pub blind : Reply → Reply
 blind (said a) = said a

@@ -1,5 +1,4 @@
 // A payload of each kind: its message, then its end, then whether it is set aside. The slice is the payload and nothing else.
-use alpha::AlphaRead;
 use answers::Answer;
 use answers::Message;
 use answers::Outcome;
@@ -7,11 +6,12 @@ use answers::kind::Kind;
 use bits::cursor::Cursor;
 use bits::ending::tail;
 use bits::read::Onward;
-use equirectangular::EquirectangularRead;
-use frame_packing::FramePackingRead;
-use orientation::OrientationRead;
-use rotation::RotationRead;
-use user_data::registered::RegisteredRead;
+use kind_alpha::AlphaRead;
+use kind_equirectangular::EquirectangularRead;
+use kind_frame_packing::FramePackingRead;
+use kind_orientation::OrientationRead;
+use kind_rotation::RotationRead;
+use kind_user_data::registered::RegisteredRead;
 ghost use mathlib.Core.Path.{_≡_};
 ghost use Rattle.bits.specs.Bits.{Payload};
 ghost use Rattle.answers.specs.Listed.{readingOf};
@@ -21,12 +21,12 @@ pub fn frame_packing(s: &[u8]) -> Answer
     requires { ⌜ Payload (now s) ⌝ }
     ensures { λ r. ⌜ r ≡ answerFor Kind.FramePacking (readingOf Kind.FramePacking (now (s .entry))) ⌝ }
 {
-    let r = frame_packing::read(s, Cursor { at: 0 });
+    let r = kind_frame_packing::read(s, Cursor { at: 0 });
     let FramePackingRead::Taken(a, c) = r else {
         return Answer::refused(Kind::FramePacking, r.refusal());
     };
     let end = tail(s, c);
-    if aside::set_aside(a) {
+    if kind_frame_packing::aside::set_aside(a) {
         return Answer::finished(
             Kind::FramePacking,
             Outcome::SetAside,
@@ -46,7 +46,7 @@ pub fn orientation(s: &[u8]) -> Answer
     requires { ⌜ Payload (now s) ⌝ }
     ensures { λ r. ⌜ r ≡ answerFor Kind.Orientation (readingOf Kind.Orientation (now (s .entry))) ⌝ }
 {
-    let r = orientation::read(s, Cursor { at: 0 });
+    let r = kind_orientation::read(s, Cursor { at: 0 });
     let OrientationRead::Taken(a, c) = r else {
         return Answer::refused(Kind::Orientation, r.refusal());
     };
@@ -62,7 +62,7 @@ pub fn equirectangular(s: &[u8]) -> Answer
     requires { ⌜ Payload (now s) ⌝ }
     ensures { λ r. ⌜ r ≡ answerFor Kind.Equirectangular (readingOf Kind.Equirectangular (now (s .entry))) ⌝ }
 {
-    let r = equirectangular::read(s, Cursor { at: 0 });
+    let r = kind_equirectangular::read(s, Cursor { at: 0 });
     let EquirectangularRead::Taken(a, c) = r else {
         return Answer::refused(Kind::Equirectangular, r.refusal());
     };
@@ -78,7 +78,7 @@ pub fn rotation(s: &[u8]) -> Answer
     requires { ⌜ Payload (now s) ⌝ }
     ensures { λ r. ⌜ r ≡ answerFor Kind.Rotation (readingOf Kind.Rotation (now (s .entry))) ⌝ }
 {
-    let r = rotation::read(s, Cursor { at: 0 });
+    let r = kind_rotation::read(s, Cursor { at: 0 });
     let RotationRead::Taken(a, c) = r else {
         return Answer::refused(Kind::Rotation, r.refusal());
     };
@@ -94,7 +94,7 @@ pub fn alpha(s: &[u8]) -> Answer
     requires { ⌜ Payload (now s) ⌝ }
     ensures { λ r. ⌜ r ≡ answerFor Kind.Alpha (readingOf Kind.Alpha (now (s .entry))) ⌝ }
 {
-    let r = alpha::read(s, Cursor { at: 0 });
+    let r = kind_alpha::read(s, Cursor { at: 0 });
     let AlphaRead::Taken(a, c) = r else {
         return Answer::refused(Kind::Alpha, r.refusal());
     };
@@ -105,26 +105,26 @@ pub fn region_wise(s: &[u8]) -> Answer
     requires { ⌜ Payload (now s) ⌝ }
     ensures { λ r. ⌜ r ≡ answerFor Kind.RegionWise (readingOf Kind.RegionWise (now (s .entry))) ⌝ }
 {
-    let r = regions::read(s, Cursor { at: 0 });
+    let r = kind_region_wise::read(s, Cursor { at: 0 });
     let onward = r.onward;
     let Onward::Next(c) = onward else {
         return Answer::refused(Kind::RegionWise, onward.refusal());
     };
     let record = r.record;
-    Answer::with_regions(record, tail(s, c))
+    Answer::region_wise(record, tail(s, c))
 }
 
 pub fn depth(s: &[u8]) -> Answer
     requires { ⌜ Payload (now s) ⌝ }
     ensures { λ r. ⌜ r ≡ answerFor Kind.Depth (readingOf Kind.Depth (now (s .entry))) ⌝ }
 {
-    let r = depth::read(s, Cursor { at: 0 });
+    let r = kind_depth::read(s, Cursor { at: 0 });
     let onward = r.onward;
     let Onward::Next(c) = onward else {
         return Answer::refused(Kind::Depth, onward.refusal());
     };
     let record = r.record;
-    Answer::with_depth(record, tail(s, c))
+    Answer::depth(record, tail(s, c))
 }
 
 // User data runs to the end of the payload and has no tail.
@@ -132,22 +132,22 @@ pub fn registered(s: &[u8]) -> Answer
     requires { ⌜ Payload (now s) ⌝ }
     ensures { λ r. ⌜ r ≡ answerFor Kind.Registered (readingOf Kind.Registered (now (s .entry))) ⌝ }
 {
-    let r = user_data::registered::read(s, Cursor { at: 0 });
+    let r = kind_user_data::registered::read(s, Cursor { at: 0 });
     let RegisteredRead::Taken(a, _) = r else {
         return Answer::refused(Kind::Registered, r.refusal());
     };
-    Answer::plain(Outcome::Taken, Message::Registered(a), 0)
+    Answer::registered(a)
 }
 
 pub fn unregistered(s: &[u8]) -> Answer
     requires { ⌜ Payload (now s) ⌝ }
     ensures { λ r. ⌜ r ≡ answerFor Kind.Unregistered (readingOf Kind.Unregistered (now (s .entry))) ⌝ }
 {
-    let r = user_data::unregistered::read(s, Cursor { at: 0 });
+    let r = kind_user_data::unregistered::read(s, Cursor { at: 0 });
     let onward = r.onward;
     let Onward::Next(_) = onward else {
         return Answer::refused(Kind::Unregistered, onward.refusal());
     };
     let record = r.record;
-    Answer::with_unregistered(record)
+    Answer::unregistered(record)
 }

@@ -11,10 +11,10 @@ use Rattle.answers.specs.Listed.{number, readingOf}
 use Rattle.answers.specs.Answer.{answerFor, refusedAs, unknown}
 use Rattle.answers.specs.declared.kind.Kind.{Kind}
 use Rattle.answers.proofs.KindLaws.{named-iff, unnamed-iff}
-use Rattle.entry.specs.Entry.{entryTo}
-use Rattle.entry.specs.declared.Entry.{Entry}
-use Rattle.entry.proofs.EntryLaws.{entry-unlisted, entry-large, entry-long, entry-payload, Judged, judged}
-use Rattle.entry.proofs.EntryLaws as entry
+use Rattle.reader.specs.Entry.{entryTo}
+use Rattle.reader.specs.declared.entry.Entry.{Entry}
+use Rattle.reader.proofs.EntryLaws.{entry-unlisted, entry-large, entry-long, entry-payload, Judged, judged}
+use Rattle.reader.proofs.EntryLaws as entry
 use Rattle.reader.specs.Reader.{answered, answerTo, Over, Within}
 
 module _ (n size : ℕ) (bytes : List ℕ) where

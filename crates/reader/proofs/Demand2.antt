@@ -16,17 +16,18 @@ use Rattle.bits.specs.declared.refusal.Refusal.the-variants as why
 use Rattle.bits.proofs.Determined.{refusal-told}
 use Rattle.bits.proofs.Numbers.{refused-some}
 use Rattle.format.specs.Stopped.{Stopped}
-use Rattle.format.specs.Whole.{taken, setAside, refused, Holds, BadTail, Seen}
-use Rattle.format.specs.Whole as whole
+use Rattle.format.specs.Whole.{taken, setAside, refused}
+use Rattle.format.specs.Holds.{Holds, BadTail, Seen}
+use Rattle.format.specs.Holds as whole
 use Rattle.format.proofs.Whole.{seen, stopped-which, taken-iff, aside-iff, stopped-iff, tail-iff}
 use Rattle.answers.specs.Listed.{Record, zeros, form, number, readingOf}
-use Rattle.answers.specs.Answer.{outcomeNumber, numberOf, made, answerFor, refusedAs, unknown}
+use Rattle.answers.specs.Answer.{outcomeNumber, answerNumber, made, answerFor, refusedAs, unknown}
 use Rattle.answers.specs.declared.kind.Kind.{Kind}
 use Rattle.answers.specs.declared.Answer.{Answer}
 use Rattle.answers.specs.declared.Outcome.{Outcome}
 use Rattle.answers.specs.declared.Outcome.the-variants.{Taken, SetAside, Refused}
-use Rattle.answers.proofs.KindLaws.{made-kind}
-use Rattle.answers.proofs.AnswerLaws.{refused-plain, reading, answer-kind, answer-reading}
+use Rattle.answers.proofs.KindLaws.{made-kind, refused-plain}
+use Rattle.answers.proofs.AnswerLaws.{reading, answer-kind, answer-reading}
 use Rattle.reader.specs.Reader.{answerTo, Over, Within}
 use Rattle.reader.specs.Cases.{stated, Case}
 use Rattle.reader.specs.Cases as cases
@@ -120,30 +121,30 @@ says n size bytes = go (case n size bytes)
     go (cases.aside k w a e d s m) = by m (k, a, e, m)
     go (cases.taken k w a e d s m) = by m (k, a, e, m)
 
-said-by : (n size : ℕ) (bytes : List ℕ) (o : Outcome) → numberOf (answerTo n size bytes) ≡ outcomeNumber o → Says (answerTo n size bytes) o
+said-by : (n size : ℕ) (bytes : List ℕ) (o : Outcome) → answerNumber (answerTo n size bytes) ≡ outcomeNumber o → Says (answerTo n size bytes) o
 said-by n size bytes o h = subst (Says (answerTo n size bytes)) (outcome-told (answerTo n size bytes .outcome) o h) (says n size bytes)
 
-pub number-0 : (n size : ℕ) (bytes : List ℕ) → (numberOf (answerTo n size bytes) ≡ 0) ↔ ((k : Kind) × (a : Record k) × (e : ℕ) × (answerTo n size bytes ≡ made k Taken a e))
-number-0 n size bytes = (said-by n size bytes Taken, λ d. ap numberOf (d .3))
+pub number-0 : (n size : ℕ) (bytes : List ℕ) → (answerNumber (answerTo n size bytes) ≡ 0) ↔ ((k : Kind) × (a : Record k) × (e : ℕ) × (answerTo n size bytes ≡ made k Taken a e))
+number-0 n size bytes = (said-by n size bytes Taken, λ d. ap answerNumber (d .3))
 
-pub number-20 : (n size : ℕ) (bytes : List ℕ) → (numberOf (answerTo n size bytes) ≡ 20) ↔ ((k : Kind) × (a : Record k) × (e : ℕ) × (answerTo n size bytes ≡ made k SetAside a e))
-number-20 n size bytes = (said-by n size bytes SetAside, λ d. ap numberOf (d .3))
+pub number-20 : (n size : ℕ) (bytes : List ℕ) → (answerNumber (answerTo n size bytes) ≡ 20) ↔ ((k : Kind) × (a : Record k) × (e : ℕ) × (answerTo n size bytes ≡ made k SetAside a e))
+number-20 n size bytes = (said-by n size bytes SetAside, λ d. ap answerNumber (d .3))
 
-pub number-1 : (n size : ℕ) (bytes : List ℕ) → (numberOf (answerTo n size bytes) ≡ 1) ↔ (answerTo n size bytes ≡ unknown)
-number-1 n size bytes = (λ h. go h (case n size bytes), λ m. ap numberOf m)
+pub number-1 : (n size : ℕ) (bytes : List ℕ) → (answerNumber (answerTo n size bytes) ≡ 1) ↔ (answerTo n size bytes ≡ unknown)
+number-1 n size bytes = (λ h. go h (case n size bytes), λ m. ap answerNumber m)
   where
-    go : numberOf (answerTo n size bytes) ≡ 1 → Case n size bytes → answerTo n size bytes ≡ unknown
+    go : answerNumber (answerTo n size bytes) ≡ 1 → Case n size bytes → answerTo n size bytes ≡ unknown
     go h (cases.unlisted f m) = m
-    go h (cases.oversized k f o m) = absurd (omega (arith, ap numberOf m))
-    go h (cases.stops k w r d m) = absurd (element-later (stopped-which (form k .table) (stated size bytes) r d) .0 (sym (ap numberOf m) ∙ h))
-    go h (cases.tail k w d m) = absurd (omega (arith, ap numberOf m))
-    go h (cases.aside k w a e d s m) = absurd (omega (arith, ap numberOf m))
-    go h (cases.taken k w a e d s m) = absurd (omega (arith, ap numberOf m))
+    go h (cases.oversized k f o m) = absurd (omega (arith, ap answerNumber m))
+    go h (cases.stops k w r d m) = absurd (element-later (stopped-which (form k .table) (stated size bytes) r d) .0 (sym (ap answerNumber m) ∙ h))
+    go h (cases.tail k w d m) = absurd (omega (arith, ap answerNumber m))
+    go h (cases.aside k w a e d s m) = absurd (omega (arith, ap answerNumber m))
+    go h (cases.taken k w a e d s m) = absurd (omega (arith, ap answerNumber m))
 
 -- 2 to 7
 pub number-refused : (n size : ℕ) (bytes : List ℕ) (r : Refusal) → r ≢ why.Kind
-    → (numberOf (answerTo n size bytes) ≡ refusals.numberOf r) ↔ ((k : Kind) × (answerTo n size bytes ≡ refusedAs k r))
-number-refused n size bytes r l = (λ h. go (said-by n size bytes (Refused r) h), λ d. ap numberOf (d .1))
+    → (answerNumber (answerTo n size bytes) ≡ refusals.refusalNumber r) ↔ ((k : Kind) × (answerTo n size bytes ≡ refusedAs k r))
+number-refused n size bytes r l = (λ h. go (said-by n size bytes (Refused r) h), λ d. ap answerNumber (d .1))
   where
     go : Says (answerTo n size bytes) (Refused r) → (k : Kind) × (answerTo n size bytes ≡ refusedAs k r)
     go (inl u) = absurd (l (u .0))
@@ -157,8 +158,8 @@ of-payload : (n size : ℕ) (bytes : List ℕ) (k : Kind) (o : Outcome) (a : Rec
 of-payload n size bytes k o a e l h = go (call n size bytes)
   where
     go : Call n size bytes → Within k n size bytes × (readingOf k (take size bytes) ≡ reading o a e)
-    go (unlisted f m) = absurd (l .0 (sym (ap numberOf (sym m ∙ h))))
-    go (oversized j f g m) = absurd (l .1 (sym (ap numberOf (sym m ∙ h))))
+    go (unlisted f m) = absurd (l .0 (sym (ap answerNumber (sym m ∙ h))))
+    go (oversized j f g m) = absurd (l .1 (sym (ap answerNumber (sym m ∙ h))))
     go (payload j w m) =
         subst
         (λ i. Within i n size bytes → answerFor i (readingOf i (take size bytes)) ≡ made k o a e
@@ -190,17 +191,17 @@ answer-20 n size bytes k a e = (sound, λ d. to-payload n size bytes k (d .0) �
         let t = aside-when k (take size bytes) a e .0 (d .1) in
         (d .0, t .0, t .1)
 
--- 1, with no fields: exactly where the kind is none of the nine
+-- 1, with no fields: exactly where the kind is none of those listed
 pub answer-1 : (n size : ℕ) (bytes : List ℕ) → (answerTo n size bytes ≡ unknown) ↔ ((k : Kind) → n ≢ number k)
 answer-1 n size bytes = (λ h. go h (case n size bytes), to-unlisted n size bytes)
   where
     go : answerTo n size bytes ≡ unknown → Case n size bytes → (k : Kind) → n ≢ number k
     go h (cases.unlisted f m) = f
-    go h (cases.oversized k f o m) = absurd (omega (arith, ap numberOf (sym m ∙ h)))
-    go h (cases.stops k w r d m) = absurd (element-later (stopped-which (form k .table) (stated size bytes) r d) .0 (ap numberOf (sym m ∙ h)))
-    go h (cases.tail k w d m) = absurd (omega (arith, ap numberOf (sym m ∙ h)))
-    go h (cases.aside k w a e d s m) = absurd (omega (arith, ap numberOf (sym m ∙ h)))
-    go h (cases.taken k w a e d s m) = absurd (omega (arith, ap numberOf (sym m ∙ h)))
+    go h (cases.oversized k f o m) = absurd (omega (arith, ap answerNumber (sym m ∙ h)))
+    go h (cases.stops k w r d m) = absurd (element-later (stopped-which (form k .table) (stated size bytes) r d) .0 (ap answerNumber (sym m ∙ h)))
+    go h (cases.tail k w d m) = absurd (omega (arith, ap answerNumber (sym m ∙ h)))
+    go h (cases.aside k w a e d s m) = absurd (omega (arith, ap answerNumber (sym m ∙ h)))
+    go h (cases.taken k w a e d s m) = absurd (omega (arith, ap answerNumber (sym m ∙ h)))
 
 -- 2, with zeros, as in every refusal of a listed kind: exactly where the size exceeds 8,192 or the lent length
 pub answer-2 : (n size : ℕ) (bytes : List ℕ) (k : Kind) → (answerTo n size bytes ≡ refusedAs k refusals.bySize) ↔ ((n ≡ number k) × Over size bytes)
@@ -212,12 +213,12 @@ answer-2 n size bytes k = (λ h. go h (case n size bytes), λ d. to-oversized n 
         made-kind j k o o (zeros j) (zeros k) 0 0 (refused-plain j refusals.bySize ∙ q ∙ sym (refused-plain k refusals.bySize))
 
     go : answerTo n size bytes ≡ refusedAs k refusals.bySize → Case n size bytes → (n ≡ number k) × Over size bytes
-    go h (cases.unlisted f m) = absurd (omega (arith, ap numberOf (sym m ∙ h)))
+    go h (cases.unlisted f m) = absurd (omega (arith, ap answerNumber (sym m ∙ h)))
     go h (cases.oversized j f o m) = (f ∙ ap number (one j (sym m ∙ h)), o)
-    go h (cases.stops j w r d m) = absurd (element-later (stopped-which (form j .table) (stated size bytes) r d) .1 (ap numberOf (sym m ∙ h)))
-    go h (cases.tail j w d m) = absurd (omega (arith, ap numberOf (sym m ∙ h)))
-    go h (cases.aside j w a e d s m) = absurd (omega (arith, ap numberOf (sym m ∙ h)))
-    go h (cases.taken j w a e d s m) = absurd (omega (arith, ap numberOf (sym m ∙ h)))
+    go h (cases.stops j w r d m) = absurd (element-later (stopped-which (form j .table) (stated size bytes) r d) .1 (ap answerNumber (sym m ∙ h)))
+    go h (cases.tail j w d m) = absurd (omega (arith, ap answerNumber (sym m ∙ h)))
+    go h (cases.aside j w a e d s m) = absurd (omega (arith, ap answerNumber (sym m ∙ h)))
+    go h (cases.taken j w a e d s m) = absurd (omega (arith, ap answerNumber (sym m ∙ h)))
 
 of-refused : (n size : ℕ) (bytes : List ℕ) (k : Kind) (r : Refusal) → Later (Refused r) → answerTo n size bytes ≡ refusedAs k r → Within k n size bytes × (readingOf k (take size bytes) ≡ refused r)
 of-refused n size bytes k r l h = of-payload n size bytes k (Refused r) (zeros k) 0 l (h ∙ sym (refused-plain k r))
@@ -242,24 +243,24 @@ answer-7 n size bytes k = (sound, λ d. to-refused n size bytes k why.Tail (d .0
 
 -- ---- and so each number exactly when
 
-pub when-0 : (n size : ℕ) (bytes : List ℕ) → (numberOf (answerTo n size bytes) ≡ 0)
+pub when-0 : (n size : ℕ) (bytes : List ℕ) → (answerNumber (answerTo n size bytes) ≡ 0)
     ↔ ((k : Kind) × (a : Record k) × (e : ℕ) × Within k n size bytes × Holds (form k) (stated size bytes) a e × (form k .aside a ≡ false))
-when-0 n size bytes = (to, λ d. ap numberOf (answer-0 n size bytes (d .0) (d .1) (d .2) .1 (d .3, d .4, d .5)))
+when-0 n size bytes = (to, λ d. ap answerNumber (answer-0 n size bytes (d .0) (d .1) (d .2) .1 (d .3, d .4, d .5)))
   where
-    to : numberOf (answerTo n size bytes) ≡ 0
+    to : answerNumber (answerTo n size bytes) ≡ 0
         → (k : Kind) × (a : Record k) × (e : ℕ) × Within k n size bytes × Holds (form k) (stated size bytes) a e × (form k .aside a ≡ false)
     to h =
         let r = number-0 n size bytes .0 h in
         let d = answer-0 n size bytes (r .0) (r .1) (r .2) .0 (r .3) in
         (r .0, r .1, r .2, d .0, d .1, d .2)
 
-pub when-1 : (n size : ℕ) (bytes : List ℕ) → (numberOf (answerTo n size bytes) ≡ 1) ↔ ((k : Kind) → n ≢ number k)
-when-1 n size bytes = (λ h. answer-1 n size bytes .0 (number-1 n size bytes .0 h), λ d. ap numberOf (answer-1 n size bytes .1 d))
+pub when-1 : (n size : ℕ) (bytes : List ℕ) → (answerNumber (answerTo n size bytes) ≡ 1) ↔ ((k : Kind) → n ≢ number k)
+when-1 n size bytes = (λ h. answer-1 n size bytes .0 (number-1 n size bytes .0 h), λ d. ap answerNumber (answer-1 n size bytes .1 d))
 
-pub when-2 : (n size : ℕ) (bytes : List ℕ) → (numberOf (answerTo n size bytes) ≡ 2) ↔ ((k : Kind) × (n ≡ number k) × Over size bytes)
-when-2 n size bytes = (to, λ d. ap numberOf (answer-2 n size bytes (d .0) .1 (d .1, d .2)))
+pub when-2 : (n size : ℕ) (bytes : List ℕ) → (answerNumber (answerTo n size bytes) ≡ 2) ↔ ((k : Kind) × (n ≡ number k) × Over size bytes)
+when-2 n size bytes = (to, λ d. ap answerNumber (answer-2 n size bytes (d .0) .1 (d .1, d .2)))
   where
-    to : numberOf (answerTo n size bytes) ≡ 2 → (k : Kind) × (n ≡ number k) × Over size bytes
+    to : answerNumber (answerTo n size bytes) ≡ 2 → (k : Kind) × (n ≡ number k) × Over size bytes
     to h =
         let r = number-refused n size bytes refusals.bySize (λ q. let z : _≡_ {A = ℕ} 0 1 = cc in omega arith) .0 h in
         let d = answer-2 n size bytes (r .0) .0 (r .1) in
@@ -267,29 +268,29 @@ when-2 n size bytes = (to, λ d. ap numberOf (answer-2 n size bytes (d .0) .1 (d
 
 -- 3, 4, 5 and 6
 pub when-stopped : (n size : ℕ) (bytes : List ℕ) (r : Refusal) → OfElement r
-    → (numberOf (answerTo n size bytes) ≡ refusals.numberOf r) ↔ ((k : Kind) × Within k n size bytes × Stopped (form k .table) (stated size bytes) r)
-when-stopped n size bytes r o = (to, λ d. ap numberOf (answer-stopped n size bytes (d .0) r o .1 (d .1, d .2)))
+    → (answerNumber (answerTo n size bytes) ≡ refusals.refusalNumber r) ↔ ((k : Kind) × Within k n size bytes × Stopped (form k .table) (stated size bytes) r)
+when-stopped n size bytes r o = (to, λ d. ap answerNumber (answer-stopped n size bytes (d .0) r o .1 (d .1, d .2)))
   where
-    to : numberOf (answerTo n size bytes) ≡ refusals.numberOf r → (k : Kind) × Within k n size bytes × Stopped (form k .table) (stated size bytes) r
+    to : answerNumber (answerTo n size bytes) ≡ refusals.refusalNumber r → (k : Kind) × Within k n size bytes × Stopped (form k .table) (stated size bytes) r
     to h =
-        let x = number-refused n size bytes r (λ q. element-later o .0 (ap refusals.numberOf q)) .0 h in
+        let x = number-refused n size bytes r (λ q. element-later o .0 (ap refusals.refusalNumber q)) .0 h in
         let d = answer-stopped n size bytes (x .0) r o .0 (x .1) in
         (x .0, d .0, d .1)
 
-pub when-7 : (n size : ℕ) (bytes : List ℕ) → (numberOf (answerTo n size bytes) ≡ 7) ↔ ((k : Kind) × Within k n size bytes × BadTail (form k) (stated size bytes))
-when-7 n size bytes = (to, λ d. ap numberOf (answer-7 n size bytes (d .0) .1 (d .1, d .2)))
+pub when-7 : (n size : ℕ) (bytes : List ℕ) → (answerNumber (answerTo n size bytes) ≡ 7) ↔ ((k : Kind) × Within k n size bytes × BadTail (form k) (stated size bytes))
+when-7 n size bytes = (to, λ d. ap answerNumber (answer-7 n size bytes (d .0) .1 (d .1, d .2)))
   where
-    to : numberOf (answerTo n size bytes) ≡ 7 → (k : Kind) × Within k n size bytes × BadTail (form k) (stated size bytes)
+    to : answerNumber (answerTo n size bytes) ≡ 7 → (k : Kind) × Within k n size bytes × BadTail (form k) (stated size bytes)
     to h =
         let x = number-refused n size bytes why.Tail (λ q. let z : _≡_ {A = ℕ} 0 1 = cc in omega arith) .0 h in
         let d = answer-7 n size bytes (x .0) .0 (x .1) in
         (x .0, d .0, d .1)
 
-pub when-20 : (n size : ℕ) (bytes : List ℕ) → (numberOf (answerTo n size bytes) ≡ 20)
+pub when-20 : (n size : ℕ) (bytes : List ℕ) → (answerNumber (answerTo n size bytes) ≡ 20)
     ↔ ((k : Kind) × (a : Record k) × (e : ℕ) × Within k n size bytes × Holds (form k) (stated size bytes) a e × (form k .aside a ≡ true))
-when-20 n size bytes = (to, λ d. ap numberOf (answer-20 n size bytes (d .0) (d .1) (d .2) .1 (d .3, d .4, d .5)))
+when-20 n size bytes = (to, λ d. ap answerNumber (answer-20 n size bytes (d .0) (d .1) (d .2) .1 (d .3, d .4, d .5)))
   where
-    to : numberOf (answerTo n size bytes) ≡ 20
+    to : answerNumber (answerTo n size bytes) ≡ 20
         → (k : Kind) × (a : Record k) × (e : ℕ) × Within k n size bytes × Holds (form k) (stated size bytes) a e × (form k .aside a ≡ true)
     to h =
         let r = number-20 n size bytes .0 h in

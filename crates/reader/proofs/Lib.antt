@@ -1,4 +1,5 @@
 -- The theorems of this crate, beside the proofs of its functions.
+pub mod EntryLaws
 pub mod Calls
 pub mod Demand2
 pub mod Local

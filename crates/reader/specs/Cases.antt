@@ -10,7 +10,7 @@ use Rattle.bits.specs.Refusals.{bySize}
 use Rattle.bits.specs.declared.refusal.Refusal.{Refusal}
 use Rattle.bits.specs.declared.refusal.Refusal.the-variants.{Tail}
 use Rattle.format.specs.Stopped.{Stopped}
-use Rattle.format.specs.Whole.{Holds, BadTail}
+use Rattle.format.specs.Holds.{Holds, BadTail}
 use Rattle.answers.specs.Listed.{Record, form, number}
 use Rattle.answers.specs.Answer.{made, refusedAs, unknown}
 use Rattle.answers.specs.declared.kind.Kind.{Kind}
@@ -22,7 +22,7 @@ abbrev pub stated : ℕ → List ℕ → List Bool
 stated size bytes = bitsOf (take size bytes)
 
 pub data Case (n size : ℕ) (bytes : List ℕ) : Type 0 where
-  -- 1: the kind is none of the nine, and there are no fields
+  -- 1: the kind is none of those listed, and there are no fields
   unlisted : ((k : Kind) → n ≢ number k) → answerTo n size bytes ≡ unknown → Case n size bytes
   -- 2, with zeros, as in every refusal of a listed kind: the size exceeds the limit or the lent bytes
   oversized : (k : Kind) → n ≡ number k → Over size bytes → answerTo n size bytes ≡ refusedAs k bySize → Case n size bytes

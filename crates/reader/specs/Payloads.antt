@@ -4,16 +4,16 @@ use mathlib.Core.Path.{_≡_}
 use mathlib.Core.List.{List, [], _∷_, _++_}
 use lib.IntN.{ℤ, pos}
 use lib.Ieee.{binary64, ofBits}
-use lib.ListN.{length}
+use lib.ListN.{length, replicate}
 use Rattle.bits.specs.declared.refusal.Refusal.the-variants.{Short, Rule, Tail}
 use Rattle.numbers.specs.declared.depth.DepthNumber.the-variants.{Absent, Number}
-use Rattle.frame_packing.specs.declared.FramePacking.{FramePacking}
-use Rattle.equirectangular.specs.declared.Equirectangular.{Equirectangular}
-use Rattle.rotation.specs.declared.Rotation.{Rotation}
-use Rattle.alpha.specs.declared.Alpha.{Alpha}
-use Rattle.depth.specs.declared.Depth.{Depth}
-use Rattle.depth_parts.specs.Model.{noNumbers}
-use Rattle.depth_parts.specs.declared.element.DepthValue.{DepthValue}
+use Rattle.kind_frame_packing.specs.declared.FramePacking.{FramePacking}
+use Rattle.kind_equirectangular.specs.declared.Equirectangular.{Equirectangular}
+use Rattle.kind_rotation.specs.declared.Rotation.{Rotation}
+use Rattle.kind_alpha.specs.declared.Alpha.{Alpha}
+use Rattle.kind_depth.specs.declared.Depth.{Depth}
+use Rattle.kind_depth.specs.Depth.{most}
+use Rattle.kind_depth.specs.declared.element.DepthValue.{DepthValue}
 use Rattle.answers.specs.declared.kind.Kind.the-variants as kinds
 use Rattle.answers.specs.declared.Answer.{Answer}
 use Rattle.answers.specs.declared.Outcome.the-variants.{Taken}
@@ -40,11 +40,11 @@ pub data All {A : Type 0} (P : A → Type 0) : List A → Type 0 where
 abbrev pub pitched : (cancel persistence : ℕ) → ℤ → ℕ → Rotation
 pitched cancel persistence pitch bits =
     record {
-      cancel = cancel;
-      persistence = persistence;
-      yaw = pos 0;
-      pitch = pitch;
-      roll = pos 0;
+      «sphere_rotation_cancel_flag» = cancel;
+      «sphere_rotation_persistence_flag» = persistence;
+      «yaw_rotation» = pos 0;
+      «pitch_rotation» = pitch;
+      «roll_rotation» = pos 0;
       degrees = record { yaw = ofBits binary64 0; pitch = ofBits binary64 bits; roll = ofBits binary64 0 };
     }
 
@@ -73,26 +73,26 @@ rotations =
 abbrev pub packed : (cancel type interpretation persistence : ℕ) → FramePacking
 packed cancel type interpretation persistence =
     record {
-      id = 0;
-      cancel = cancel;
+      «fp_arrangement_id» = 0;
+      «fp_arrangement_cancel_flag» = cancel;
       layout =
           record {
-            «arrangement_type» = type;
-            quincunx = 0;
-            «content_interpretation» = interpretation;
+            «fp_arrangement_type» = type;
+            «fp_quincunx_sampling_flag» = 0;
+            «fp_content_interpretation_type» = interpretation;
             flags =
                 record {
-                  «spatial_flipping» = 0;
-                  «frame0_flipped» = 0;
-                  «field_views» = 0;
-                  «current_is_frame0» = 0;
-                  «frame0_self_contained» = 0;
-                  «frame1_self_contained» = 0;
+                  «fp_spatial_flipping_flag» = 0;
+                  «fp_frame0_flipped_flag» = 0;
+                  «fp_field_views_flag» = 0;
+                  «fp_current_frame_is_frame0_flag» = 0;
+                  «fp_frame0_self_contained_flag» = 0;
+                  «fp_frame1_self_contained_flag» = 0;
                 };
-            grid = record { «frame0_x» = 0; «frame0_y» = 0; «frame1_x» = 0; «frame1_y» = 0 };
-            persistence = persistence;
+            grid = record { «fp_frame0_grid_position_x» = 0; «fp_frame0_grid_position_y» = 0; «fp_frame1_grid_position_x» = 0; «fp_frame1_grid_position_y» = 0 };
+            «fp_arrangement_persistence_flag» = persistence;
           };
-      «upsampled_aspect_ratio» = 0;
+      «fp_upsampled_aspect_ratio_flag» = 0;
     }
 
 abbrev pub packings : List Row
@@ -106,7 +106,7 @@ packings =
 -- persists, with this guard flag, type and widths
 abbrev pub projected : (guarded type width : ℕ) → Equirectangular
 projected guarded type width =
-    record { cancel = 0; persistence = 1; guarded = guarded; «guard_type» = type; «left_width» = width; «right_width» = width }
+    record { «erp_cancel_flag» = 0; «erp_persistence_flag» = 1; «erp_guard_band_flag» = guarded; «erp_guard_band_type» = type; «erp_left_guard_band_width» = width; «erp_right_guard_band_width» = width }
 
 abbrev pub projections : List Row
 projections =
@@ -123,18 +123,18 @@ projections =
 abbrev pub opaque : Alpha
 opaque =
     record {
-      cancel = 0;
-      «use_idc» = 1;
-      «bit_depth_minus8» = 0;
-      «transparent_value» = 0;
-      «opaque_value» = 255;
-      incr = 0;
-      clip = 0;
-      «clip_type» = 0;
+      «alpha_channel_cancel_flag» = 0;
+      «alpha_channel_use_idc» = 1;
+      «alpha_channel_bit_depth_minus8» = 0;
+      «alpha_transparent_value» = 0;
+      «alpha_opaque_value» = 255;
+      «alpha_channel_incr_flag» = 0;
+      «alpha_channel_clip_flag» = 0;
+      «alpha_channel_clip_type_flag» = 0;
     }
 
 abbrev pub nothing : DepthValue
-nothing = record { sign = 0; exponent = 0; «length_minus1» = 0; mantissa = 0; number = Absent }
+nothing = record { «da_sign_flag» = 0; «da_exponent» = 0; «da_mantissa_len_minus1» = 0; «da_mantissa» = 0; number = Absent }
 
 -- z near is 1.5: exponent 31 and a mantissa of one bit, 1
 abbrev pub near : Depth
@@ -144,14 +144,14 @@ near =
       «z_far_flag» = 0;
       «d_min_flag» = 0;
       «d_max_flag» = 0;
-      «representation_type» = 0;
-      «ref_view_id» = 0;
-      «z_near» = record { sign = 0; exponent = 31; «length_minus1» = 0; mantissa = 1; number = Number (ofBits binary64 0x3ff8_0000_0000_0000) };
+      «depth_representation_type» = 0;
+      «disparity_ref_view_id» = 0;
+      «z_near» = record { «da_sign_flag» = 0; «da_exponent» = 31; «da_mantissa_len_minus1» = 0; «da_mantissa» = 1; number = Number (ofBits binary64 0x3ff8_0000_0000_0000) };
       «z_far» = nothing;
       «d_min» = nothing;
       «d_max» = nothing;
       count = 0;
-      model = noNumbers;
+      «depth_nonlinear_representation_model» = replicate most 0;
     }
 
 abbrev pub others : List Row

@@ -10,9 +10,9 @@ use Rattle.answers.specs.Listed.{number, readingOf}
 use Rattle.answers.specs.Answer.{answerFor, refusedAs, unknown}
 use Rattle.answers.specs.declared.kind.Kind.{Kind}
 use Rattle.answers.specs.declared.Answer.{Answer}
-use Rattle.entry.specs.Entry.{entryTo}
-use Rattle.entry.specs.declared.Entry.{Entry}
-use Rattle.entry.specs.declared.Entry.the-variants.{Unlisted, Oversized, Payload}
+use Rattle.reader.specs.Entry.{entryTo}
+use Rattle.reader.specs.declared.entry.Entry.{Entry}
+use Rattle.reader.specs.declared.entry.Entry.the-variants.{Unlisted, Oversized, Payload}
 
 -- the stated size cuts the lent bytes
 abbrev pub answered : Entry → ℕ → List ℕ → Answer

@@ -1,9 +1,9 @@
 // The reader: any kind, any size, any bytes.
+use crate::entry::Entry;
+use crate::entry::judged;
 use answers::Answer;
 use answers::kind::Kind;
 use bits::refusal::Refusal;
-use entry::Entry;
-use entry::judged;
 use lent::front;
 ghost use mathlib.Core.Path.{_≡_};
 ghost use Rattle.bits.specs.Bits.{Payload};

@@ -7,13 +7,13 @@ use crate::guard::meaning;
 use crate::guard::reserved;
 use crate::names::uncancelled;
 use crate::style::Style;
+use kind_region_wise::MOST;
 use print::ROOM;
 use print::byte;
 use print::number;
 use print::numbered;
 use print::piece;
 use print::text;
-use regions::MOST;
 ghost use Prim.Native.Nat.{_≤_, _<_};
 
 // A region: its index, where its numbers begin in the row, and where its bytes begin in the payload.

@@ -2,8 +2,10 @@
 -- Assumes nothing.
 use mathlib.Core.Path.{_≡_, refl}
 use mathlib.Core.List.{[], _∷_}
-use Rattle.held.specs.Held.{noFramePacking, noOrientation, noEquirectangular, noRotation, noPacking, keptFramePacking, keptOrientation, keptEquirectangular, keptRotation, keptPacking, nothing, kept}
-use Rattle.slots.specs.Slots.{answerNumber, freshSlot, closedSlot, isOpen, holding, start, slotAt, withSlot, done, refused, replaced, opened, closed, sequenced, _showing_, pictured}
+use Rattle.format.specs.Syntax.{i32, times}
+use Rattle.kind_region_wise.specs.RegionWise.{region}
+use Rattle.held.specs.Held.{noFramePacking, noOrientation, noEquirectangular, noRotation, noRegionWise, keptFramePacking, keptOrientation, keptEquirectangular, keptRotation, keptRegionWise, nothing, kept}
+use Rattle.slots.specs.Slots.{callNumber, freshSlot, closedSlot, isOpen, holding, start, slotAt, withSlot, done, refused, replaced, opened, closed, sequenced, _showing_, pictured}
 use Rattle.slots.specs.declared.Slots.{Slots}
 
 -- opening slot 3 opens it and no other
@@ -20,13 +22,13 @@ no-slot-256 : opened start 256 ≡ refused start
 unfolding opened
 no-slot-256 = refl
 
-number-8 : answerNumber (opened start 8 .answer) ≡ 8
+number-8 : callNumber (opened start 8 .answer) ≡ 8
 unfolding opened
 number-8 = refl
 
 -- a picture on an empty open slot is done, and shows nothing five times
 shows-nothing : pictured (opened start 0 .slots) 0 ≡ done (opened start 0 .slots) showing nothing
-unfolding opened pictured start slotAt withSlot holding isOpen freshSlot closedSlot kept nothing noFramePacking noOrientation noEquirectangular noRotation noPacking keptFramePacking keptOrientation keptEquirectangular keptRotation keptPacking
+unfolding i32 times region opened pictured start slotAt withSlot holding isOpen freshSlot closedSlot kept nothing noFramePacking noOrientation noEquirectangular noRotation noRegionWise keptFramePacking keptOrientation keptEquirectangular keptRotation keptRegionWise
 shows-nothing = refl
 
 -- of a closed slot only opening is done

@@ -14,9 +14,9 @@ use Rattle.bits.specs.Refusals.{bySlot}
 use Rattle.bits.proofs.BitLaws.{below}
 use Rattle.bits.specs.declared.refusal.Refusal.{Refusal}
 use Rattle.held.specs.Held.{nothing, kept}
-use Rattle.format.specs.Syntax.{if_then_else_}
+use Rattle.bits.specs.Choice.{if_then_else_}
 use Rattle.slots.specs.Slots.{
-  answerNumber,
+  callNumber,
   freshSlot,
   closedSlot,
   isOpen,
@@ -124,7 +124,7 @@ open-within s n e o = ⊎-elim (λ (l : n < 8). l) (λ (l : 8 ≤ n). absurd (ap
 abbrev pub answered : Bool → Answer
 answered b = if b then Done else Refused bySlot
 
-number-if : (b : Bool) → (answerNumber (answered b) ≡ 8) ↔ (b ≡ false)
+number-if : (b : Bool) → (callNumber (answered b) ≡ 8) ↔ (b ≡ false)
 number-if true = (λ h. absurd (omega arith), λ h. absurd (apart refl h))
 number-if false = (λ h. refl, λ h. refl)
 
@@ -168,7 +168,7 @@ module _ (s : Slots) (n : ℕ) where
   pub opened-unchanged : (r : Refusal) → opened s n .answer ≡ Refused r → opened s n .slots ≡ s
   opened-unchanged r h = rw opened-slots (unchanged-if s _ (ltb n 8) r (sym opened-answer ∙ h))
 
-  pub opened-8 : (answerNumber (opened s n .answer) ≡ 8) ↔ (8 ≤ n)
+  pub opened-8 : (callNumber (opened s n .answer) ≡ 8) ↔ (8 ≤ n)
   opened-8 = rw opened-answer (λ h. ltb-false n 8 (number-if (ltb n 8) .0 h), λ h. number-if (ltb n 8) .1 (le-ltb n 8 h))
 
 -- ---- closing and a sequence call: `closed s n` is `replaced s n closedSlot`, and `sequenced s n` is `replaced s n freshSlot`
@@ -178,7 +178,7 @@ there : (s : Slots) (n : ℕ) (x : Slot) → Eight s → (b : Bool) → isOpen (
 there s n x e true o = slot-with s n x e (open-within s n e o)
 there s n x e false o = refl
 
-number-shut : (s : Slots) (n : ℕ) → Eight s → (answerNumber (answered (isOpen (slotAt s n))) ≡ 8) ↔ Shut s n
+number-shut : (s : Slots) (n : ℕ) → Eight s → (callNumber (answered (isOpen (slotAt s n))) ≡ 8) ↔ Shut s n
 number-shut s n e =
     (λ h. inr (number-if (isOpen (slotAt s n)) .0 h), λ h. number-if (isOpen (slotAt s n)) .1 (shut-off s n e h))
 
@@ -200,7 +200,7 @@ module _ (s : Slots) (n : ℕ) (x : Slot) where
   pub replaced-unchanged : (r : Refusal) → replaced s n x .answer ≡ Refused r → replaced s n x .slots ≡ s
   replaced-unchanged r h = rw replaced-slots (unchanged-if s _ (isOpen (slotAt s n)) r (sym replaced-answer ∙ h))
 
-  pub replaced-8 : Eight s → (answerNumber (replaced s n x .answer) ≡ 8) ↔ Shut s n
+  pub replaced-8 : Eight s → (callNumber (replaced s n x .answer) ≡ 8) ↔ Shut s n
   replaced-8 e = rw replaced-answer (number-shut s n e)
 
 -- the same of an open slot
@@ -237,7 +237,7 @@ module _ (s : Slots) (n : ℕ) where
   pub pictured-unchanged : (r : Refusal) → pictured s n .answer ≡ Refused r → pictured s n .slots ≡ s
   pictured-unchanged r h = rw pictured-is (replaced-unchanged s n (after s n) r (rw pictured-is at h))
 
-  pub pictured-8 : Eight s → (answerNumber (pictured s n .answer) ≡ 8) ↔ Shut s n
+  pub pictured-8 : Eight s → (callNumber (pictured s n .answer) ≡ 8) ↔ Shut s n
   pictured-8 e = rw pictured-is (replaced-8 s n (after s n) e)
 
 -- the same of an open slot

@@ -5,9 +5,9 @@ use mathlib.Core.Path.{_≡_}
 use mathlib.Core.Logic.{_≢_, _⊎_}
 use lib.Dec.{eqb, ltb}
 use lib.ListN.{length, replicate, getD, set}
-use Rattle.bits.specs.Refusals.{numberOf, bySlot}
+use Rattle.bits.specs.Refusals.{refusalNumber, bySlot}
 use Rattle.held.specs.Held.{nothing, kept}
-use Rattle.format.specs.Syntax.{if_then_else_}
+use Rattle.bits.specs.Choice.{if_then_else_}
 use Rattle.held.specs.declared.Held.{Held}
 use Rattle.slots.specs.declared.Slot.{Slot}
 use Rattle.slots.specs.declared.Slots.{Slots}
@@ -17,9 +17,9 @@ use Rattle.slots.specs.declared.Called.{Called}
 use Rattle.slots.specs.declared.Pictured.{Pictured}
 
 -- the number that a caller gets: 0 for done
-abbrev pub answerNumber : Answer → ℕ
-answerNumber Done = 0
-answerNumber (Refused r) = numberOf r
+abbrev pub callNumber : Answer → ℕ
+callNumber Done = 0
+callNumber (Refused r) = refusalNumber r
 
 -- ---- a slot
 

@@ -4,7 +4,7 @@ use bits::refusal::Refusal;
 use held::Held;
 ghost use mathlib.Core.Path.{_≡_};
 ghost use Rattle.slots.specs.Slots.{
-  answerNumber,
+  callNumber,
   freshSlot,
   closedSlot,
   isOpen,
@@ -31,7 +31,7 @@ pub enum Answer {
 impl Answer {
     // The number that a caller gets.
     pub fn number(self) -> u32
-        ensures { λ r. ⌜ r ≡ answerNumber self ⌝ }
+        ensures { λ r. ⌜ r ≡ callNumber self ⌝ }
     {
         match self {
             Answer::Done => 0,

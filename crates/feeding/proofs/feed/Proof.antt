@@ -26,7 +26,7 @@ module _ (s : Slots) (n kind size : ℕ) (bytes : List ℕ) where
 
   -- here is what is read of slot n, and x is what is stored there
   on : (here x : Slot) (answer : Answer) (left : Held) → here ≡ slotAt s n → isOpen here ≡ true → answer ≡ answerTo kind size bytes →
-      left ≡ heldBy (here .held) (answer .outcome) (answer .message) (answer .regions) → x ≡ holding here left →
+      left ≡ heldBy (here .held) (answer .outcome) (answer .message) (answer .beside .«region_wise») → x ≡ holding here left →
       record { answer = answer; slots = record { slots = set (s .slots) n x } } ≡ fedTo s n kind size bytes
   unfolding fedTo heldAfter withSlot
   on here x answer left e o a k h = rw (← e, o, h, k, a)

@@ -26,7 +26,7 @@ held-with-spec =
     (λ c. rw (c .with-orientation .ensures, c .before .before .message2 .given .1))
     (λ c. rw (c .with-equirectangular .ensures, c .before .before .message3 .given .1))
     (λ c. rw (c .with-rotation .ensures, c .before .before .message4 .given .1))
-    (λ c. rw (c .with-regions .ensures, c .before .enum-told .given .1))
+    (λ c. rw (c .with-region-wise .ensures, c .before .enum-told .given .1))
     (λ c. rw (c .enum-told2 .given .1))
     (λ c. rw (c .enum-told3 .given .1))
     (λ c. rw (c .enum-told4 .given .1))

@@ -4,7 +4,7 @@ use mathlib.Core.Path.{ap, _∙_}
 use denote.Ref.{now}
 use borrow.Author.Needs.{needs}
 use Rattle.answers.specs.declared.Answer.{Answer}
-use Rattle.handing.specs.Handing.{wroteFields}
+use Rattle.record_row.specs.Handing.{wroteFields}
 use Rattle.host.proofs.bruskelde_fields.Statement.{statement}
 use Rattle.host.proofs.bruskelde_fields.Tie as tie
 

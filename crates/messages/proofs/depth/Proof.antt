@@ -2,9 +2,9 @@
 -- Assumes nothing.
 use mathlib.Core.Path.{refl, sym, ap, _∙_}
 use borrow.Author.Needs.{needs}
-use Rattle.format.specs.Format.{runAt}
-use Rattle.depth.specs.declared.DepthRead.{DepthRead}
-use Rattle.depth.specs.Depth.{depth, depthRead}
+use Rattle.format.specs.Reading.{runAt}
+use Rattle.kind_depth.specs.declared.DepthRead.{DepthRead}
+use Rattle.kind_depth.specs.Depth.{depth, depthRead}
 use Rattle.answers.specs.declared.kind.Kind.the-variants.{Depth}
 use Rattle.messages.proofs.Finish.{by-refused, by-taken, went, stood}
 use Rattle.messages.proofs.depth.Statement.{statement}
@@ -23,7 +23,7 @@ taken : tie.Need-returns-2
 taken c =
     let known = c .before .before .before .before .onward .given .1 in
     let r = c .before .before .before .before .before .before in
-    rw (c .with-depth .ensures, c .before .tail .ensures, r .read .ensures)
+    rw (c .depth .ensures, c .before .tail .ensures, r .read .ensures)
     (by-taken Depth (r .before .before .args .s .now) refl
     (went depthRead (λ x. x .onward) (λ x. x .«record») (λ a q. refl) (λ a q. refl) (λ r. refl) (runAt depth _ 0)
     (ap (λ (x : DepthRead). x .onward) (sym (r .read .ensures)) ∙ known)))

@@ -3,7 +3,7 @@
 use mathlib.Core.Path.{refl, sym, ap, _∙_}
 use mathlib.Core.Bool.{true, false}
 use borrow.Author.Needs.{needs}
-use Rattle.frame_packing.specs.Answers.{answer}
+use Rattle.kind_frame_packing.specs.FramePacking.{outOf}
 use Rattle.answers.specs.declared.kind.Kind.the-variants.{FramePacking}
 use Rattle.messages.proofs.Finish.{by-refused, by-plain}
 use Rattle.messages.proofs.frame_packing.Statement.{statement}
@@ -13,14 +13,14 @@ refused : tie.Need-returns
 refused c =
     let told = c .before .before .enum-told .given .1 in
     rw (c .refused .ensures, c .before .refusal .ensures, told)
-    (by-refused FramePacking _ (c .before .before .before .before .read .ensures) (ap answer told))
+    (by-refused FramePacking _ (c .before .before .before .before .read .ensures) (ap outOf told))
 
 aside : tie.Need-returns-2
 aside c =
     let tail = c .before .before .before in
     let known = tail .before .before .r .given .1 in
     rw (c .finished .ensures, tail .tail .ensures)
-    (by-plain FramePacking _ (tail .before .before .before .before .read .ensures) (ap answer known) (λ o e. refl) true
+    (by-plain FramePacking _ (tail .before .before .before .before .read .ensures) (ap outOf known) refl refl true
     (sym (c .before .before .set-aside .ensures) ∙ c .before .if1 .taken))
 
 taken : tie.Need-returns-3
@@ -28,7 +28,7 @@ taken c =
     let tail = c .before .before .before in
     let known = tail .before .before .r .given .1 in
     rw (c .finished2 .ensures, tail .tail .ensures)
-    (by-plain FramePacking _ (tail .before .before .before .before .read .ensures) (ap answer known) (λ o e. refl) false
+    (by-plain FramePacking _ (tail .before .before .before .before .read .ensures) (ap outOf known) refl refl false
     (sym (c .before .before .set-aside .ensures) ∙ c .before .if1 .left))
 
 pub frame-packing-spec : {M : Type 1} → statement M

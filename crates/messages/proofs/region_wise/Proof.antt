@@ -2,9 +2,9 @@
 -- Assumes nothing.
 use mathlib.Core.Path.{refl, sym, ap, _∙_}
 use borrow.Author.Needs.{needs}
-use Rattle.format.specs.Format.{runAt}
-use Rattle.regions.specs.declared.PackingRead.{PackingRead}
-use Rattle.regions.specs.Packing.{packing, packingRead}
+use Rattle.format.specs.Reading.{runAt}
+use Rattle.kind_region_wise.specs.declared.RegionWiseRead.{RegionWiseRead}
+use Rattle.kind_region_wise.specs.RegionWise.{regionWise, regionWiseRead}
 use Rattle.answers.specs.declared.kind.Kind.the-variants.{RegionWise}
 use Rattle.messages.proofs.Finish.{by-refused, by-taken, went, stood}
 use Rattle.messages.proofs.region_wise.Statement.{statement}
@@ -16,17 +16,17 @@ refused c =
     let r = c .before .before .before .before in
     rw (c .refused .ensures, c .before .refusal .ensures, told)
     (by-refused RegionWise (r .before .before .args .s .now) refl
-    (stood packingRead (λ x. x .onward) (λ x. x .«record») (λ a q. refl) (λ a q. refl) (λ r. refl) (runAt packing _ 0)
-    (ap (λ (x : PackingRead). x .onward) (sym (r .read .ensures)) ∙ told)))
+    (stood regionWiseRead (λ x. x .onward) (λ x. x .«record») (λ a q. refl) (λ a q. refl) (λ r. refl) (runAt regionWise _ 0)
+    (ap (λ (x : RegionWiseRead). x .onward) (sym (r .read .ensures)) ∙ told)))
 
 taken : tie.Need-returns-2
 taken c =
     let known = c .before .before .before .before .onward .given .1 in
     let r = c .before .before .before .before .before .before in
-    rw (c .with-regions .ensures, c .before .tail .ensures, r .read .ensures)
+    rw (c .region-wise .ensures, c .before .tail .ensures, r .read .ensures)
     (by-taken RegionWise (r .before .before .args .s .now) refl
-    (went packingRead (λ x. x .onward) (λ x. x .«record») (λ a q. refl) (λ a q. refl) (λ r. refl) (runAt packing _ 0)
-    (ap (λ (x : PackingRead). x .onward) (sym (r .read .ensures)) ∙ known)))
+    (went regionWiseRead (λ x. x .onward) (λ x. x .«record») (λ a q. refl) (λ a q. refl) (λ r. refl) (runAt regionWise _ 0)
+    (ap (λ (x : RegionWiseRead). x .onward) (sym (r .read .ensures)) ∙ known)))
 
 pub region-wise-spec : {M : Type 1} → statement M
 region-wise-spec =

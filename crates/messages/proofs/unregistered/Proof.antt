@@ -2,9 +2,9 @@
 -- Assumes nothing.
 use mathlib.Core.Path.{refl, sym, ap, _∙_}
 use borrow.Author.Needs.{needs}
-use Rattle.format.specs.Format.{runAt}
-use Rattle.user_data.specs.declared.unregistered.UnregisteredRead.{UnregisteredRead}
-use Rattle.user_data.specs.Unregistered.{unregistered, unregisteredRead}
+use Rattle.format.specs.Reading.{runAt}
+use Rattle.kind_user_data.specs.declared.unregistered.UnregisteredRead.{UnregisteredRead}
+use Rattle.kind_user_data.specs.Unregistered.{unregistered, unregisteredRead}
 use Rattle.answers.specs.declared.kind.Kind.the-variants.{Unregistered}
 use Rattle.messages.proofs.Finish.{by-refused, by-taken, went, stood}
 use Rattle.messages.proofs.unregistered.Statement.{statement}
@@ -23,7 +23,7 @@ taken : tie.Need-returns-2
 taken c =
     let known = c .before .before .enum-told .given .1 in
     let r = c .before .before .before .before in
-    rw (c .with-unregistered .ensures, r .read .ensures)
+    rw (c .unregistered .ensures, r .read .ensures)
     (by-taken Unregistered (r .before .before .args .s .now) refl
     (went unregisteredRead (λ x. x .onward) (λ x. x .«record») (λ a q. refl) (λ a q. refl) (λ r. refl) (runAt unregistered _ 0)
     (ap (λ (x : UnregisteredRead). x .onward) (sym (r .read .ensures)) ∙ known)))

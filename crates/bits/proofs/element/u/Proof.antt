@@ -11,7 +11,7 @@ returns : tie.Need-returns
 returns c = sym (u-short _ _ _ (omega arith))
 
 returns-2 : tie.Need-returns-2
-returns-2 c = rw (c .number .ensures) (sym (u-value _ _ _ (omega arith)))
+returns-2 c = rw (c .unsigned .ensures) (sym (u-value _ _ _ (omega arith)))
 
 pub u-spec : {M : Type 1} → statement M
 u-spec =

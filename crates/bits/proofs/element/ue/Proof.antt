@@ -6,7 +6,7 @@ use mathlib.Core.Path.{_≡_, sym, ap, _∙_}
 use native.Mathlib.Omega.{arith}
 use Rattle.bits.specs.Bits.{from}
 use Rattle.bits.specs.Elements.{ueAt}
-use Rattle.bits.specs.Answers.{answer}
+use Rattle.bits.specs.Answers.{readOut}
 use Rattle.bits.proofs.BitLaws.{length-from}
 use Rattle.bits.proofs.ElementLaws.{leading-most, leading-inside, lessOne, ue-at, ue-at-zeros, ue-some}
 use Rattle.bits.proofs.element.ue.Statement.{statement}
@@ -33,23 +33,23 @@ u-requires : tie.Need-u-requires
 u-requires c κs = omega (arith, few c)
 
 -- what is left of the ue(v) after its zeros
-rest : (c : tie.After-u) → let a = c .before .before .before .before .args in ueAt (a .s .now) (a .c .at) ≡ lessOne (answer (c .u .result))
+rest : (c : tie.After-u) → let a = c .before .before .before .before .args in ueAt (a .s .now) (a .c .at) ≡ lessOne (readOut (c .u .result))
 rest c =
     let d = c .before in
     ue-at _ _ (d .before .zeros .result) (d .before .zeros .ensures) (few d) ∙ ap lessOne (sym (c .u .ensures))
 
 returns-2 : tie.Need-returns-2
-returns-2 c = rw (c .enum-told .given .1) (sym (rest (c .before .before) ∙ ap (λ r. lessOne (answer r)) (c .enum-told .given .1)))
+returns-2 c = rw (c .enum-told .given .1) (sym (rest (c .before .before) ∙ ap (λ r. lessOne (readOut r)) (c .enum-told .given .1)))
 
 sub-t13 : tie.Need-sub-t13
 sub-t13 c =
     let u = c .before .before .before in
     let d = u .before in
     let a = d .before .before .before .args in
-    omega (arith, ue-some (a .s .now) (a .c .at) (d .before .zeros .result) (d .before .zeros .ensures) (few d) (sym (u .u .ensures) ∙ ap answer (c .before .rest .given .1)))
+    omega (arith, ue-some (a .s .now) (a .c .at) (d .before .zeros .result) (d .before .zeros .ensures) (few d) (sym (u .u .ensures) ∙ ap readOut (c .before .rest .given .1)))
 
 returns-3 : tie.Need-returns-3
-returns-3 c = sym (rest (c .before .before .before) ∙ ap (λ r. lessOne (answer r)) (c .before .rest .given .1))
+returns-3 c = sym (rest (c .before .before .before) ∙ ap (λ r. lessOne (readOut r)) (c .before .rest .given .1))
 
 pub ue-spec : {M : Type 1} → statement M
 ue-spec =

@@ -18,12 +18,12 @@ abbrev μ-loop : tie.MeasureT-loop
 
 -- one more turn: the k bits are the k - 1 bits and the bit after them
 turn : (c : tie.In-loop Inv-loop μ-loop) → let w = c .before in let a = w .before .before .before .before .args in
-    tailAt (a .s .now) (a .c .at) ≡ judged (w .before .before .left .result) (lastOne (part (a .s .now) (a .c .at) (w .loop .k - 1 + 1)))
+    tailAt (a .s .now) (a .c .at) ≡ judged (w .before .before .remaining .result) (lastOne (part (a .s .now) (a .c .at) (w .loop .k - 1 + 1)))
 turn c =
     let w = c .before in
     let a = w .before .before .before .before .args in
     let k : w .loop .k ≡ w .loop .k - 1 + 1 = omega arith in
-    w .loop .inv .1 ∙ ap (λ n. judged (w .before .before .left .result) (lastOne (part (a .s .now) (a .c .at) n))) k
+    w .loop .inv .1 ∙ ap (λ n. judged (w .before .before .remaining .result) (lastOne (part (a .s .now) (a .c .at) n))) k
 
 none : tie.Need-returns Inv-loop μ-loop
 none c = sym (tail-none _ _ (omega arith))
@@ -32,7 +32,7 @@ loop-holds : tie.Need-loop-holds Inv-loop μ-loop
 loop-holds c =
     let a = c .before .before .before .args in
     let some = tail-some (a .s .now) (a .c .at) (omega arith) in
-    (omega arith, rw (c .before .left .ensures) some)
+    (omega arith, rw (c .before .remaining .ensures) some)
 
 early : tie.Need-returns-2 Inv-loop μ-loop
 early c =
@@ -60,7 +60,7 @@ no-one c =
     let w = c .before in
     let a = w .before .before .before .before .args in
     let k : w .loop .k ≡ 0 = omega arith in
-    sym (w .loop .inv .1 ∙ ap (λ n. judged (w .before .before .left .result) (lastOne (part (a .s .now) (a .c .at) n))) k)
+    sym (w .loop .inv .1 ∙ ap (λ n. judged (w .before .before .remaining .result) (lastOne (part (a .s .now) (a .c .at) n))) k)
 
 pub tail-spec : {M : Type 1} → statement M
 tail-spec =

@@ -29,7 +29,7 @@ loop-again : tie.Need-loop-again Inv-loop μ-loop
 loop-again c =
     let w = c .before .before in
     let a = w .before .before .args in
-    (omega arith, rw (w .loop .inv .1, c .number .ensures) (fill-next (a .s .now) (a .at) (w .loop .i) (omega arith)))
+    (omega arith, rw (w .loop .inv .1, c .unsigned .ensures) (fill-next (a .s .now) (a .at) (w .loop .i) (omega arith)))
 
 returns : tie.Need-returns Inv-loop μ-loop
 returns c =

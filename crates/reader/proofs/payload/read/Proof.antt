@@ -3,7 +3,7 @@
 use mathlib.Core.Path.{sym, _∙_}
 use native.Mathlib.Omega.{arith}
 use lib.ListN.{length-take}
-use Rattle.entry.proofs.EntryLaws.{payload-limit}
+use Rattle.reader.proofs.EntryLaws.{payload-limit}
 use Rattle.reader.proofs.Calls.{by-entry}
 use Rattle.reader.proofs.payload.read.Statement.{statement}
 use Rattle.reader.proofs.payload.read.Tie as tie

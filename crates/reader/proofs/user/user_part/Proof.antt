@@ -7,37 +7,32 @@ use borrow.Author.Needs.{needs}
 use denote.Ref.{now}
 use lib.ListN.{length}
 use Rattle.reader.specs.Reader.{answerTo}
-use Rattle.reader.specs.User.{startOf, partFrom, userPart}
-use Rattle.reader.specs.declared.user.Start.{Start}
-use Rattle.reader.proofs.UserLaws.{within}
+use Rattle.reader.specs.User.{partFrom, userPart}
+use Rattle.answers.specs.declared.Rest.{Rest}
+use Rattle.reader.proofs.UserLaws.{restOf, within}
 use Rattle.reader.proofs.user.user_part.Statement.{statement}
 use Rattle.reader.proofs.user.user_part.Tie as tie
 
--- what `of` and `read` ensure together
-starts : (c : tie.After-of) → let a = c .before .before .before .args in c .of .result ≡ startOf (answerTo (a .kind) (a .size) (now (a .bytes)))
-starts c = c .of .ensures ∙ ap startOf (c .before .read .ensures)
-
--- and so, by the start x
-parts : (c : tie.After-of) (x : Start) → c .of .result ≡ x → let a = c .before .before .before .args in
+-- what is answered, by the rest x
+parts : (c : tie.After-read) (x : Rest) → c .read .result .rest ≡ x → let a = c .before .before .args in
     partFrom x (a .size) (now (a .bytes)) ≡ userPart (a .kind) (a .size) (now (a .bytes))
 unfolding userPart
-parts c x e = let a = c .before .before .before .args in ap (λ (y : Start). partFrom y (a .size) (now (a .bytes))) (sym e ∙ starts c)
+parts c x e = let a = c .before .before .args in ap (λ (y : Rest). partFrom y (a .size) (now (a .bytes))) (sym e ∙ ap restOf (c .read .ensures))
 
-inside : (c : tie.After-known-told) → let a = c .before .before .before .before .before .before .args in
-    (c .before .start .given .0 .0 ≤ a .size) × (a .size ≤ length (now (a .bytes)))
-inside c = let o = c .before .before .before in within _ _ _ (sym (starts o) ∙ c .before .start .given .1)
+inside : (c : tie.After-known-told) → let a = c .before .before .before .before .before .args in
+    (c .before .rest .given .0 .0 ≤ a .size) × (a .size ≤ length (now (a .bytes)))
+inside c = let o = c .before .before .before in within _ _ _ (sym (ap restOf (o .read .ensures)) ∙ c .before .rest .given .1)
 
 none : tie.Need-returns
 none c = parts (c .before .before .before) _ (c .before .enum-told .given .1)
 
 found : tie.Need-returns-2
-found c = parts (c .before .before .before .before) _ (c .before .before .start .given .1)
+found c = parts (c .before .before .before .before) _ (c .before .before .rest .given .1)
 
 pub user-part-spec : {M : Type 1} → statement M
 user-part-spec =
     tie.close
     (tie.spec
-    (λ c κs. tt)
     (λ c κs. tt)
     (λ c. c .match .keys1)
     (λ c. c .match .keys2)

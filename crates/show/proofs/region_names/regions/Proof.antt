@@ -2,7 +2,7 @@
 -- Assumes nothing.
 use Prim.Native.Nat.{_≤_, _+_, _-_, _*_}
 use borrow.Author.Needs.{needs}
-use Rattle.regions.specs.List.{most}
+use Rattle.kind_region_wise.specs.RegionWise.{most}
 use Rattle.show.proofs.region_names.regions.Statement.{statement}
 use Rattle.show.proofs.region_names.regions.Tie as tie
 

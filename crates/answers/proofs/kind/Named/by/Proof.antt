@@ -1,4 +1,4 @@
--- `answers::kind::Named::by` meets its contract: a number that is none of the nine names no kind.
+-- `answers::kind::Named::by` meets its contract: a number that is none of those listed names no kind.
 -- Assumes nothing.
 use borrow.Author.Tests.{ne-eqb}
 use Rattle.answers.specs.Listed.{named}

@@ -1,4 +1,0 @@
--- The theorems of this crate, beside the proofs of its functions.
-mod RowLaws
-mod Filled
-pub mod Determined

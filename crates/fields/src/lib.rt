@@ -1,3 +1,0 @@
-// The records as numbers.
-pub mod record;
-mod row;

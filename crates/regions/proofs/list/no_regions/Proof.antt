@@ -1,7 +1,0 @@
--- `regions::list::no_regions` meets its contract.
--- Assumes nothing.
-use Rattle.regions.proofs.list.no_regions.Statement.{statement}
-use Rattle.regions.proofs.list.no_regions.Tie as tie
-
-pub no-regions-spec : {M : Type 1} → statement M
-no-regions-spec = tie.close (tie.spec (λ c κs. tt) (λ c. rw (c .zero .ensures)))

@@ -1,4 +1,0 @@
--- What the contracts of this crate cite.
-pub mod List
-pub mod Head
-pub mod Packing
