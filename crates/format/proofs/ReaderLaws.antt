@@ -9,7 +9,7 @@ use lib.Dec.{leb}
 use borrow.Author.Tests.{le-leb, lt-leb, leb-true}
 use Rattle.bits.specs.Refusals.{broken, Verdict, fine, against}
 use Rattle.bits.specs.Out.{Out, taken, refused, after, refusalIn}
-use Rattle.bits.specs.Elements.{uAt, ueAt, shapeAt}
+use Rattle.bits.specs.Elements.{ueAt, shapeAt}
 use Rattle.bits.specs.declared.refusal.Refusal.the-variants.{Rule}
 use Rattle.bits.specs.declared.read.Onward.{Onward}
 use Rattle.bits.specs.declared.read.Onward.the-variants.{Next, Refused}
@@ -71,9 +71,6 @@ pub one-element : {R : Type 0} (e : Element) (g : R → ℕ) (s : List ℕ) (p :
 one-element e g s p = step e g done s p ∙ done-after _ s (elementAt e s p)
 
 -- one with no rule
-pub one-u : {R : Type 0} (n : ℕ) (g : R → ℕ) (s : List ℕ) (p : ℕ) → runAt (u n at g) s p ≡ uAt s p n
-one-u n g s p = step-code (u n) g done s p ∙ done-after _ s (uAt s p n)
-
 pub one-ue : {R : Type 0} (g : R → ℕ) (s : List ℕ) (p : ℕ) → runAt (ue at g) s p ≡ ueAt s p
 one-ue g s p = step-code ue g done s p ∙ done-after _ s (ueAt s p)
 
