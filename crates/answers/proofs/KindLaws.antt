@@ -1,5 +1,5 @@
 -- All that is shown kind by kind: a number names a kind exactly where it is the kind's own; an answer is of one kind, with one record; a refusal
--- comes with the kind's zeros; a record loses nothing of its message; and only kinds 4 and 5 have a rest.
+-- comes with the kind's zeros; a record loses nothing of its message; a message of a kind that is not held is a passing one; and only kinds 4 and 5 have a rest.
 -- Assumes nothing.
 use Prim.Native.Nat.{ℕ}
 use mathlib.Core.Path.{_≡_, refl, sym, ap, _∙_}
@@ -20,7 +20,7 @@ use Rattle.kind_region_wise.proofs.Faithful as region-wise
 use Rattle.kind_alpha.proofs.Faithful as alpha
 use Rattle.kind_depth.proofs.Faithful as depth
 use Rattle.kind_user_data.proofs.Faithful as user-data
-use Rattle.answers.specs.Listed.{Record, listing, form, number, listedKinds, namedIn, named}
+use Rattle.answers.specs.Listed.{Record, listing, form, number, Unheld, listedKinds, namedIn, named}
 use Rattle.answers.specs.Answer.{messageOf, made, answerFor, refusedAs}
 use Rattle.answers.specs.declared.Rest.the-variants.{Nowhere}
 use Rattle.answers.specs.declared.kind.Kind.{Kind}
@@ -29,8 +29,11 @@ use Rattle.answers.specs.declared.kind.Named.{Named}
 use Rattle.answers.specs.declared.kind.Named.the-variants.{Listed, Unlisted}
 use Rattle.answers.specs.declared.Answer.{Answer}
 use Rattle.answers.specs.declared.Outcome.{Outcome}
-use Rattle.answers.specs.declared.Message.{Message}
-use Rattle.answers.specs.declared.Message.the-variants as message
+use Rattle.answers.specs.declared.kind.LastingMessage.the-variants as lasting
+use Rattle.answers.specs.declared.kind.PassingMessage.{PassingMessage}
+use Rattle.answers.specs.declared.kind.PassingMessage.the-variants as passing
+use Rattle.answers.specs.declared.kind.Message.{Message}
+use Rattle.answers.specs.declared.kind.Message.the-variants.{Nothing, Lasting, Passing}
 
 -- ---- a number names a kind exactly where it is the kind's own
 
@@ -81,16 +84,16 @@ module _ (n : ℕ) where
 -- ---- an answer is of one kind, with one record
 
 abbrev tag : Message → ℕ
-tag message.Nothing = 0
-tag (message.FramePacking a) = 45
-tag (message.Orientation a) = 47
-tag (message.Equirectangular a) = 150
-tag (message.Rotation a) = 154
-tag message.RegionWise = 155
-tag (message.Alpha a) = 165
-tag message.Depth = 177
-tag (message.Registered a) = 4
-tag message.Unregistered = 5
+tag Nothing = 0
+tag (Lasting (lasting.FramePacking a)) = 45
+tag (Lasting (lasting.Orientation a)) = 47
+tag (Lasting (lasting.Equirectangular a)) = 150
+tag (Lasting (lasting.Rotation a)) = 154
+tag (Lasting lasting.RegionWise) = 155
+tag (Passing (passing.Alpha a)) = 165
+tag (Passing passing.Depth) = 177
+tag (Passing (passing.Registered a)) = 4
+tag (Passing passing.Unregistered) = 5
 
 tag-of : (k : Kind) (a : Record k) → tag (messageOf k a) ≡ number k
 tag-of kinds.FramePacking a = refl
@@ -107,14 +110,14 @@ pub made-kind : (k j : Kind) (o p : Outcome) (a : Record k) (b : Record j) (e f 
 made-kind k j o p a b e f h = one-kind k j (sym (tag-of k a) ∙ ap (λ (x : Answer). tag (x .message)) h ∙ tag-of j b)
 
 made-record : (k : Kind) (o p : Outcome) (a b : Record k) (e f : ℕ) → made k o a e ≡ made k p b f → a ≡ b
-made-record kinds.FramePacking o p a b e f h = let m : message.FramePacking a ≡ message.FramePacking b = ap (λ (x : Answer). x .message) h in cc
-made-record kinds.Orientation o p a b e f h = let m : message.Orientation a ≡ message.Orientation b = ap (λ (x : Answer). x .message) h in cc
-made-record kinds.Equirectangular o p a b e f h = let m : message.Equirectangular a ≡ message.Equirectangular b = ap (λ (x : Answer). x .message) h in cc
-made-record kinds.Rotation o p a b e f h = let m : message.Rotation a ≡ message.Rotation b = ap (λ (x : Answer). x .message) h in cc
+made-record kinds.FramePacking o p a b e f h = let m : Lasting (lasting.FramePacking a) ≡ Lasting (lasting.FramePacking b) = ap (λ (x : Answer). x .message) h in cc
+made-record kinds.Orientation o p a b e f h = let m : Lasting (lasting.Orientation a) ≡ Lasting (lasting.Orientation b) = ap (λ (x : Answer). x .message) h in cc
+made-record kinds.Equirectangular o p a b e f h = let m : Lasting (lasting.Equirectangular a) ≡ Lasting (lasting.Equirectangular b) = ap (λ (x : Answer). x .message) h in cc
+made-record kinds.Rotation o p a b e f h = let m : Lasting (lasting.Rotation a) ≡ Lasting (lasting.Rotation b) = ap (λ (x : Answer). x .message) h in cc
 made-record kinds.RegionWise o p a b e f h = ap (λ (x : Answer). x .beside .«region_wise») h
-made-record kinds.Alpha o p a b e f h = let m : message.Alpha a ≡ message.Alpha b = ap (λ (x : Answer). x .message) h in cc
+made-record kinds.Alpha o p a b e f h = let m : Passing (passing.Alpha a) ≡ Passing (passing.Alpha b) = ap (λ (x : Answer). x .message) h in cc
 made-record kinds.Depth o p a b e f h = ap (λ (x : Answer). x .beside .depth) h
-made-record kinds.Registered o p a b e f h = let m : message.Registered a ≡ message.Registered b = ap (λ (x : Answer). x .message) h in cc
+made-record kinds.Registered o p a b e f h = let m : Passing (passing.Registered a) ≡ Passing (passing.Registered b) = ap (λ (x : Answer). x .message) h in cc
 made-record kinds.Unregistered o p a b e f h = ap (λ (x : Answer). x .beside .unregistered) h
 
 pub made-same : (k : Kind) (o p : Outcome) (a b : Record k) (e f : ℕ) → made k o a e ≡ made k p b f → (o ≡ p) × (a ≡ b) × (e ≡ f)
@@ -144,6 +147,22 @@ faithful kinds.Alpha = alpha.faithful
 faithful kinds.Depth = depth.faithful
 faithful kinds.Registered = user-data.registered-faithful
 faithful kinds.Unregistered = user-data.unregistered-faithful
+
+-- ---- which messages a slot never holds
+
+differ : {A : Type 0} → true ≡ false → A
+differ e = let z : _≡_ {A = ℕ} 0 1 = cc in absurd (omega arith)
+
+pub unheld-passes : (k : Kind) (a : Record k) → Unheld k → (m : PassingMessage) × (messageOf k a ≡ Passing m)
+unheld-passes kinds.FramePacking a u = differ u
+unheld-passes kinds.Orientation a u = differ u
+unheld-passes kinds.Equirectangular a u = differ u
+unheld-passes kinds.Rotation a u = differ u
+unheld-passes kinds.RegionWise a u = differ u
+unheld-passes kinds.Alpha a u = (passing.Alpha a, refl)
+unheld-passes kinds.Depth a u = (passing.Depth, refl)
+unheld-passes kinds.Registered a u = (passing.Registered a, refl)
+unheld-passes kinds.Unregistered a u = (passing.Unregistered, refl)
 
 -- ---- which kinds have a rest
 

@@ -10,8 +10,8 @@ use Rattle.answers.specs.declared.kind.Kind.{Kind}
 use Rattle.answers.specs.declared.Answer.{Answer}
 use Rattle.answers.specs.declared.Outcome.{Outcome}
 use Rattle.answers.specs.declared.Outcome.the-variants.{Taken, SetAside, Refused}
-use Rattle.answers.specs.declared.Message.{Message}
-use Rattle.answers.specs.declared.Message.the-variants as message
+use Rattle.answers.specs.declared.kind.Message.{Message}
+use Rattle.answers.specs.declared.kind.Message.the-variants.{Nothing}
 use Rattle.answers.specs.declared.Rest.{Rest}
 use Rattle.answers.specs.declared.Rest.the-variants.{Nowhere}
 
@@ -59,4 +59,4 @@ finished k o m (ending.Refused r) = refusedAs k r
 
 -- a kind that is none of those listed has no fields
 abbrev pub unknown : Answer
-unknown = plain (Refused byKind) message.Nothing 0
+unknown = plain (Refused byKind) Nothing 0

@@ -1,6 +1,7 @@
 -- The kinds of RULES 4: number, record, how a payload of the kind is read as a whole, and what an answer has of its record.
 use Prim.Native.Nat.{ℕ}
-use mathlib.Core.Bool.{Bool, true, false, cond}
+use mathlib.Core.Path.{_≡_}
+use mathlib.Core.Bool.{Bool, true, false, cond, _||_}
 use mathlib.Core.List.{List, [], _∷_}
 use lib.Dec.{eqb}
 use Rattle.bits.specs.Bits.{bitsOf}
@@ -32,8 +33,10 @@ use Rattle.answers.specs.declared.kind.Kind.the-variants as kinds
 use Rattle.answers.specs.declared.kind.Named.{Named}
 use Rattle.answers.specs.declared.kind.Named.the-variants.{Listed, Unlisted}
 use Rattle.answers.specs.declared.Beside.{Beside}
-use Rattle.answers.specs.declared.Message.{Message}
-use Rattle.answers.specs.declared.Message.the-variants as message
+use Rattle.answers.specs.declared.kind.LastingMessage.the-variants as lasting
+use Rattle.answers.specs.declared.kind.PassingMessage.the-variants as passing
+use Rattle.answers.specs.declared.kind.Message.{Message}
+use Rattle.answers.specs.declared.kind.Message.the-variants.{Lasting, Passing}
 use Rattle.answers.specs.declared.Rest.{Rest}
 use Rattle.answers.specs.declared.Rest.the-variants.{From, Nowhere}
 
@@ -73,26 +76,26 @@ plainly n table aside zero m =
 
 -- kinds 4 and 5 run to the end of the payload and have no tail; only messages of kind 45 are set aside
 abbrev pub listing : (k : Kind) → Listing (Record k)
-listing kinds.FramePacking = plainly 45 frame-packing.framePacking setAside (format.zeros frame-packing.table) message.FramePacking
-listing kinds.Orientation = plainly 47 orientation.orientation never (format.zeros orientation.table) message.Orientation
-listing kinds.Equirectangular = plainly 150 equirectangular.equirectangular never (format.zeros equirectangular.table) message.Equirectangular
-listing kinds.Rotation = plainly 154 rotation.rotation never (format.zeros rotation.table) message.Rotation
+listing kinds.FramePacking = plainly 45 frame-packing.framePacking setAside (format.zeros frame-packing.table) (λ a. Lasting (lasting.FramePacking a))
+listing kinds.Orientation = plainly 47 orientation.orientation never (format.zeros orientation.table) (λ a. Lasting (lasting.Orientation a))
+listing kinds.Equirectangular = plainly 150 equirectangular.equirectangular never (format.zeros equirectangular.table) (λ a. Lasting (lasting.Equirectangular a))
+listing kinds.Rotation = plainly 154 rotation.rotation never (format.zeros rotation.table) (λ a. Lasting (lasting.Rotation a))
 listing kinds.RegionWise =
     record {
       number = 155;
       form = record { table = region-wise.regionWise; tailed = true; aside = never };
       zero = nothing .«region_wise»;
-      message = λ a. message.RegionWise;
+      message = λ a. Lasting lasting.RegionWise;
       beside = λ a. record { «region_wise» = a; depth = nothing .depth; unregistered = nothing .unregistered };
       rest = λ a. Nowhere;
     }
-listing kinds.Alpha = plainly 165 alpha.alpha never (format.zeros alpha.table) message.Alpha
+listing kinds.Alpha = plainly 165 alpha.alpha never (format.zeros alpha.table) (λ a. Passing (passing.Alpha a))
 listing kinds.Depth =
     record {
       number = 177;
       form = record { table = depth.depth; tailed = true; aside = never };
       zero = nothing .depth;
-      message = λ a. message.Depth;
+      message = λ a. Passing passing.Depth;
       beside = λ a. record { «region_wise» = nothing .«region_wise»; depth = a; unregistered = nothing .unregistered };
       rest = λ a. Nowhere;
     }
@@ -101,7 +104,7 @@ listing kinds.Registered =
       number = 4;
       form = record { table = registered.registered; tailed = false; aside = never };
       zero = format.zeros registered.table;
-      message = message.Registered;
+      message = λ a. Passing (passing.Registered a);
       beside = λ a. nothing;
       rest = λ a. From (registered.headBytes a);
     }
@@ -110,7 +113,7 @@ listing kinds.Unregistered =
       number = 5;
       form = record { table = unregistered.unregistered; tailed = false; aside = never };
       zero = nothing .unregistered;
-      message = λ a. message.Unregistered;
+      message = λ a. Passing passing.Unregistered;
       beside = λ a. record { «region_wise» = nothing .«region_wise»; depth = nothing .depth; unregistered = a };
       rest = λ a. From 16;
     }
@@ -123,6 +126,13 @@ form k = listing k .form
 
 abbrev pub zeros : (k : Kind) → Record k
 zeros k = listing k .zero
+
+-- the five that a slot holds, by their numbers; the other kinds "are read and not held"
+abbrev pub isHeld : ℕ → Bool
+isHeld n = eqb n 45 || (eqb n 47 || (eqb n 150 || (eqb n 154 || eqb n 155)))
+
+abbrev pub Unheld : Kind → Type 0
+Unheld k = isHeld (number k) ≡ false
 
 -- what reading a payload of kind k comes to
 unfoldable pub readingOf : (k : Kind) → List ℕ → Reading (Record k)

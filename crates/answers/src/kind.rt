@@ -1,6 +1,13 @@
-// The kinds, and the numbers that name them.
+// The kinds, the numbers that name them, and the messages of each.
+use kind_alpha::Alpha;
+use kind_equirectangular::Equirectangular;
+use kind_frame_packing::FramePacking;
+use kind_orientation::Orientation;
+use kind_rotation::Rotation;
+use kind_user_data::registered::Registered;
 ghost use mathlib.Core.Path.{_≡_};
 ghost use Rattle.answers.specs.Listed.{named};
+ghost use Rattle.answers.specs.Answer.{zeroMessage};
 
 pub enum Kind {
     FramePacking,
@@ -52,5 +59,54 @@ impl Named {
             return Named::Listed(Kind::Unregistered);
         }
         Named::Unlisted
+    }
+}
+
+// A message of a kind that a slot holds. A record that holds an array stands beside the message, in the answer; here and below.
+pub enum LastingMessage {
+    FramePacking(FramePacking),
+    Orientation(Orientation),
+    Equirectangular(Equirectangular),
+    Rotation(Rotation),
+    RegionWise,
+}
+
+// A message of a kind that is read and not held.
+pub enum PassingMessage {
+    Alpha(Alpha),
+    Depth,
+    Registered(Registered),
+    Unregistered,
+}
+
+pub enum Message {
+    // Of no listed kind.
+    Nothing,
+    Lasting(LastingMessage),
+    Passing(PassingMessage),
+}
+
+impl Message {
+    // The message of zeros of a kind.
+    pub(crate) fn zero(kind: Kind) -> Message
+        ensures { λ r. ⌜ r ≡ zeroMessage kind ⌝ }
+    {
+        match kind {
+            Kind::FramePacking => {
+                Message::Lasting(LastingMessage::FramePacking(FramePacking::zero()))
+            }
+            Kind::Orientation => {
+                Message::Lasting(LastingMessage::Orientation(Orientation::zero()))
+            }
+            Kind::Equirectangular => {
+                Message::Lasting(LastingMessage::Equirectangular(Equirectangular::zero()))
+            }
+            Kind::Rotation => Message::Lasting(LastingMessage::Rotation(Rotation::zero())),
+            Kind::RegionWise => Message::Lasting(LastingMessage::RegionWise),
+            Kind::Alpha => Message::Passing(PassingMessage::Alpha(Alpha::zero())),
+            Kind::Depth => Message::Passing(PassingMessage::Depth),
+            Kind::Registered => Message::Passing(PassingMessage::Registered(Registered::zero())),
+            Kind::Unregistered => Message::Passing(PassingMessage::Unregistered),
+        }
     }
 }

@@ -2,21 +2,19 @@
 pub mod kind;
 
 use crate::kind::Kind;
+use crate::kind::LastingMessage;
+use crate::kind::Message;
+use crate::kind::PassingMessage;
 use bits::ending::Ending;
 use bits::refusal::Refusal;
-use kind_alpha::Alpha;
 use kind_depth::Depth;
-use kind_equirectangular::Equirectangular;
-use kind_frame_packing::FramePacking;
-use kind_orientation::Orientation;
 use kind_region_wise::RegionWise;
-use kind_rotation::Rotation;
 use kind_user_data::registered::Registered;
 use kind_user_data::unregistered::Unregistered;
 ghost use mathlib.Core.Path.{_≡_};
 ghost use Rattle.format.specs.Whole.{ended};
 ghost use Rattle.answers.specs.Listed.{never, nothing};
-ghost use Rattle.answers.specs.Answer.{outcomeNumber, plain, made, answerFor, finished, refusedAs, zeroMessage, unknown};
+ghost use Rattle.answers.specs.Answer.{outcomeNumber, plain, made, answerFor, finished, refusedAs, unknown};
 
 pub enum Outcome {
     Taken,
@@ -33,40 +31,6 @@ impl Outcome {
             Outcome::Taken => 0,
             Outcome::SetAside => 20,
             Outcome::Refused(why) => why.number(),
-        }
-    }
-}
-
-// A message by its kind. A record that holds an array stands beside it, in the answer.
-pub enum Message {
-    // Of no listed kind.
-    Nothing,
-    FramePacking(FramePacking),
-    Orientation(Orientation),
-    Equirectangular(Equirectangular),
-    Rotation(Rotation),
-    RegionWise,
-    Alpha(Alpha),
-    Depth,
-    Registered(Registered),
-    Unregistered,
-}
-
-impl Message {
-    // The message of zeros of a kind.
-    fn zero(kind: Kind) -> Message
-        ensures { λ r. ⌜ r ≡ zeroMessage kind ⌝ }
-    {
-        match kind {
-            Kind::FramePacking => Message::FramePacking(FramePacking::zero()),
-            Kind::Orientation => Message::Orientation(Orientation::zero()),
-            Kind::Equirectangular => Message::Equirectangular(Equirectangular::zero()),
-            Kind::Rotation => Message::Rotation(Rotation::zero()),
-            Kind::RegionWise => Message::RegionWise,
-            Kind::Alpha => Message::Alpha(Alpha::zero()),
-            Kind::Depth => Message::Depth,
-            Kind::Registered => Message::Registered(Registered::zero()),
-            Kind::Unregistered => Message::Unregistered,
         }
     }
 }
@@ -154,7 +118,7 @@ impl Answer {
                 beside.region_wise = value;
                 Answer {
                     outcome: Outcome::Taken,
-                    message: Message::RegionWise,
+                    message: Message::Lasting(LastingMessage::RegionWise),
                     extension: e,
                     rest: Rest::Nowhere,
                     beside,
@@ -173,7 +137,7 @@ impl Answer {
                 beside.depth = value;
                 Answer {
                     outcome: Outcome::Taken,
-                    message: Message::Depth,
+                    message: Message::Passing(PassingMessage::Depth),
                     extension: e,
                     rest: Rest::Nowhere,
                     beside,
@@ -191,7 +155,7 @@ impl Answer {
         let beside = Beside::nothing();
         Answer {
             outcome: Outcome::Taken,
-            message: Message::Registered(value),
+            message: Message::Passing(PassingMessage::Registered(value)),
             extension: 0,
             rest: Rest::From(head),
             beside,
@@ -205,7 +169,7 @@ impl Answer {
         beside.unregistered = value;
         Answer {
             outcome: Outcome::Taken,
-            message: Message::Unregistered,
+            message: Message::Passing(PassingMessage::Unregistered),
             extension: 0,
             rest: Rest::From(16),
             beside,

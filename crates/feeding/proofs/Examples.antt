@@ -22,7 +22,7 @@ use Rattle.reader.specs.Entry.{entryTo}
 use Rattle.reader.specs.Reader.{answerTo}
 use Rattle.answers.specs.declared.kind.Kind.the-variants as kinds
 use Rattle.answers.specs.declared.Outcome.the-variants.{Taken, Refused}
-use Rattle.answers.specs.declared.Message.the-variants.{Nothing}
+use Rattle.answers.specs.declared.kind.Message.the-variants.{Nothing}
 use Rattle.held.specs.Held.{
   nothing,
   kept,

@@ -13,19 +13,18 @@ use Rattle.bits.specs.Refusals as refusals
 use Rattle.bits.specs.declared.refusal.Refusal.{Refusal}
 use Rattle.format.specs.Whole.{Reading, taken, setAside, refused}
 use Rattle.format.proofs.Whole as whole
-use Rattle.answers.specs.Listed.{Record, form, number, named, readingOf}
+use Rattle.answers.specs.Listed.{Record, form, number, Unheld, named, readingOf}
 use Rattle.answers.specs.Answer.{answerNumber, answerFor}
 use Rattle.reader.specs.Reader.{answerTo}
 use Rattle.reader.specs.Cases.{stated, Case}
 use Rattle.reader.specs.Cases as cases
 use Rattle.answers.specs.declared.kind.Kind.{Kind}
-use Rattle.answers.specs.declared.kind.Kind.the-variants as kinds
 use Rattle.answers.specs.declared.kind.Named.{Named}
 use Rattle.answers.specs.declared.kind.Named.the-variants.{Listed, Unlisted}
 use Rattle.answers.specs.declared.Answer.{Answer}
 use Rattle.answers.specs.declared.Outcome.{Outcome}
 use Rattle.answers.specs.declared.Outcome.the-variants.{Taken, SetAside, Refused}
-use Rattle.answers.proofs.KindLaws.{one-kind}
+use Rattle.answers.proofs.KindLaws.{one-kind, unheld-passes}
 use Rattle.reader.proofs.Calls.{Call, unlisted, oversized, payload, call}
 use Rattle.reader.proofs.Demand2.{case}
 use Rattle.bits.specs.Choice.{if_then_else_}
@@ -35,7 +34,7 @@ use Rattle.slots.specs.declared.Slot.{Slot}
 use Rattle.slots.specs.declared.Slots.{Slots}
 use Rattle.slots.proofs.Laws.{apart, shut-off, replaced-slots, replaced-there, replaced-but-for}
 use Rattle.feeding.specs.declared.Fed.{Fed}
-use Rattle.feeding.specs.Feed.{Unheld, heldBy, heldAfter, shutAs, shutAnswer, fedTo}
+use Rattle.feeding.specs.Feed.{heldBy, heldAfter, shutAs, shutAnswer, fedTo}
 
 -- ---- what leaves the held records
 
@@ -49,23 +48,12 @@ untaken-keeps h a = go (a .outcome)
     go SetAside d = refl
     go (Refused r) d = refl
 
-differ : {A : Type 0} → true ≡ false → A
-differ e = let z : _≡_ {A = ℕ} 0 1 = cc in absurd (omega arith)
-
 -- nor does a kind that is not held
 pub unheld-keeps : (h : Held) (k : Kind) (x : Reading (Record k)) → Unheld k → heldAfter h (answerFor k x) ≡ h
 unfolding heldAfter
 unheld-keeps h k (setAside a e) u = refl
 unheld-keeps h k (refused r) u = refl
-unheld-keeps h kinds.FramePacking (taken a e) u = differ u
-unheld-keeps h kinds.Orientation (taken a e) u = differ u
-unheld-keeps h kinds.Equirectangular (taken a e) u = differ u
-unheld-keeps h kinds.Rotation (taken a e) u = differ u
-unheld-keeps h kinds.RegionWise (taken a e) u = differ u
-unheld-keeps h kinds.Alpha (taken a e) u = refl
-unheld-keeps h kinds.Depth (taken a e) u = refl
-unheld-keeps h kinds.Registered (taken a e) u = refl
-unheld-keeps h kinds.Unregistered (taken a e) u = refl
+unheld-keeps h k (taken a e) u = rw (unheld-passes k a u .1)
 
 -- ---- the number 8
 

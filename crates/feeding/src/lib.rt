@@ -1,7 +1,8 @@
 // A payload goes into a slot.
 use answers::Answer;
-use answers::Message;
 use answers::Outcome;
+use answers::kind::LastingMessage;
+use answers::kind::Message;
 use answers::kind::Named;
 use bits::refusal::Refusal;
 use held::Held;
@@ -9,22 +10,27 @@ use kind_region_wise::RegionWise;
 use reader::payload;
 use slots::Slots;
 ghost use mathlib.Core.Path.{_≡_};
-ghost use Rattle.feeding.specs.Feed.{heldWith, heldBy, shutAnswer, shutTo, fedTo};
+ghost use Rattle.feeding.specs.Feed.{heldLasting, heldWith, heldBy, shutAnswer, shutTo, fedTo};
 
-// What a taken message leaves of the held records; the record of kind 155 stands beside its message.
+// What a taken message leaves of the held records, where its kind is held; the record of kind 155 stands beside its message.
+fn held_lasting(held: Held, lasting: LastingMessage, region_wise: RegionWise) -> Held
+    ensures { λ r. ⌜ r ≡ heldLasting held lasting «region_wise» ⌝ }
+{
+    match lasting {
+        LastingMessage::FramePacking(x) => held.with_frame_packing(x),
+        LastingMessage::Orientation(x) => held.with_orientation(x),
+        LastingMessage::Equirectangular(x) => held.with_equirectangular(x),
+        LastingMessage::Rotation(x) => held.with_rotation(x),
+        LastingMessage::RegionWise => held.with_region_wise(region_wise),
+    }
+}
+
 fn held_with(held: Held, message: Message, region_wise: RegionWise) -> Held
     ensures { λ r. ⌜ r ≡ heldWith held message «region_wise» ⌝ }
 {
     match message {
-        Message::FramePacking(x) => held.with_frame_packing(x),
-        Message::Orientation(x) => held.with_orientation(x),
-        Message::Equirectangular(x) => held.with_equirectangular(x),
-        Message::Rotation(x) => held.with_rotation(x),
-        Message::RegionWise => held.with_region_wise(region_wise),
-        Message::Alpha(_) => held,
-        Message::Depth => held,
-        Message::Registered(_) => held,
-        Message::Unregistered => held,
+        Message::Lasting(m) => held_lasting(held, m, region_wise),
+        Message::Passing(_) => held,
         Message::Nothing => held,
     }
 }

@@ -12,8 +12,8 @@ use Rattle.answers.specs.Answer.{answerNumber}
 use Rattle.answers.specs.declared.Answer.{Answer}
 use Rattle.answers.specs.declared.Outcome.{Outcome}
 use Rattle.answers.specs.declared.Outcome.the-variants.{Taken, SetAside, Refused}
-use Rattle.answers.specs.declared.Message.{Message}
-use Rattle.answers.specs.declared.Message.the-variants as message
+use Rattle.answers.specs.declared.kind.Message.{Message}
+use Rattle.answers.specs.declared.kind.Message.the-variants as message
 use Rattle.reader.specs.Reader.{answerTo}
 use Rattle.reader.proofs.Local.{local}
 use Rattle.slots.specs.Slots.{Eight}
@@ -22,7 +22,8 @@ use Rattle.isolation.specs.Runs.{Call, opens, Reply, said, shown, read, tabled,
 use Rattle.isolation.specs.Pairs.{VariedPayload, Pairs}
 use Rattle.isolation.proofs.PairLaws.{varied-answer}
 use Rattle.isolation.proofs.Isolation.{isolated}
-use Rattle.record_row.specs.Handing.{recordFields, fieldsOf, handedOver, wroteBy, wroteFields}
+use Rattle.record_row.specs.Fields.{recordFields}
+use Rattle.record_row.specs.Handing.{fieldsOf, handedOver, wroteBy, wroteFields}
 use Rattle.host.specs.Part.{partAt, partOf}
 use Rattle.host.specs.Seen.{seen, allSeen, blindly, allBlindly, SeenIsolated, SameButFirst}
 

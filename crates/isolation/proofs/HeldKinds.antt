@@ -7,7 +7,7 @@ use mathlib.Core.Logic.{_≢_, _⊎_, inl, inr}
 use mathlib.Core.Bool.{Bool, true, false}
 use lib.Dec.{eqb}
 use borrow.Author.Tests.{ne-eqb, eqb-true}
-use Rattle.answers.specs.Listed.{Record, zeros, number}
+use Rattle.answers.specs.Listed.{Record, zeros, number, isHeld, Unheld}
 use Rattle.answers.specs.Answer.{made}
 use Rattle.answers.specs.declared.kind.Kind.{Kind}
 use Rattle.answers.specs.declared.kind.Kind.the-variants as kinds
@@ -43,7 +43,7 @@ use Rattle.held.specs.declared.HeldEquirectangular.{HeldEquirectangular}
 use Rattle.held.specs.declared.HeldRotation.{HeldRotation}
 use Rattle.held.specs.declared.HeldRegionWise.{HeldRegionWise}
 use Rattle.held.specs.declared.Held.{Held}
-use Rattle.feeding.specs.Feed.{isHeld, Unheld, heldAfter}
+use Rattle.feeding.specs.Feed.{heldAfter}
 use Rattle.feeding.proofs.FeedLaws.{if-ap}
 use Rattle.isolation.specs.Lasting.{Lasting, framePacking, orientation, equirectangular, rotation, regionWise, kindOf, cancelOf, persistenceOf, Marked, heldOf}
 

@@ -11,7 +11,7 @@ use lib.ListN.{take}
 use Rattle.bits.specs.Refusals.{bySize}
 use borrow.Author.Tests.{eq-eqb, ne-eqb, eqb-true, eqb-false}
 use Rattle.format.specs.Whole.{Reading, taken, setAside, refused as refused-reading}
-use Rattle.answers.specs.Listed.{Record, number, readingOf}
+use Rattle.answers.specs.Listed.{Record, number, readingOf, isHeld, Unheld}
 use Rattle.answers.specs.Answer.{answerNumber, made, answerFor, refusedAs, unknown}
 use Rattle.reader.specs.Reader.{answerTo}
 use Rattle.answers.proofs.KindLaws.{one-kind, made-kind, made-same}
@@ -26,7 +26,7 @@ use Rattle.held.specs.declared.Held.{Held}
 use Rattle.slots.specs.declared.Slot.{Slot}
 use Rattle.slots.specs.declared.Answer.the-variants.{Done}
 use Rattle.slots.proofs.Laws.{apart, fresh-open, fresh-holds, closed-holds, holding-open, holding-holds}
-use Rattle.feeding.specs.Feed.{isHeld, Unheld, heldAfter, shutAnswer}
+use Rattle.feeding.specs.Feed.{heldAfter, shutAnswer}
 use Rattle.feeding.proofs.FeedLaws.{untaken-keeps, unheld-keeps, shut-8}
 use Rattle.isolation.specs.Runs.{Call, opens, closes, sequences, pictures, feeds, tables, Reply, said, shown, read, tabled, refused, turn, ends}
 use Rattle.isolation.specs.Lasting.{Lasting, kindOf, cancelOf, persistenceOf, Marked, heldOf, HoldsOf, Told, history, Answers, Gives, Leaves, Leave, Since}

@@ -1,8 +1,10 @@
 // A payload of each kind: its message, then its end, then whether it is set aside. The slice is the payload and nothing else.
 use answers::Answer;
-use answers::Message;
 use answers::Outcome;
 use answers::kind::Kind;
+use answers::kind::LastingMessage;
+use answers::kind::Message;
+use answers::kind::PassingMessage;
 use bits::cursor::Cursor;
 use bits::ending::tail;
 use bits::read::Onward;
@@ -17,7 +19,7 @@ ghost use Rattle.bits.specs.Bits.{Payload};
 ghost use Rattle.answers.specs.Listed.{readingOf};
 ghost use Rattle.answers.specs.Answer.{answerFor};
 
-pub fn frame_packing(s: &[u8]) -> Answer
+fn frame_packing(s: &[u8]) -> Answer
     requires { ⌜ Payload (now s) ⌝ }
     ensures { λ r. ⌜ r ≡ answerFor Kind.FramePacking (readingOf Kind.FramePacking (now (s .entry))) ⌝ }
 {
@@ -25,24 +27,15 @@ pub fn frame_packing(s: &[u8]) -> Answer
     let FramePackingRead::Taken(a, c) = r else {
         return Answer::refused(Kind::FramePacking, r.refusal());
     };
+    let message = Message::Lasting(LastingMessage::FramePacking(a));
     let end = tail(s, c);
     if kind_frame_packing::aside::set_aside(a) {
-        return Answer::finished(
-            Kind::FramePacking,
-            Outcome::SetAside,
-            Message::FramePacking(a),
-            end,
-        );
+        return Answer::finished(Kind::FramePacking, Outcome::SetAside, message, end);
     }
-    Answer::finished(
-        Kind::FramePacking,
-        Outcome::Taken,
-        Message::FramePacking(a),
-        end,
-    )
+    Answer::finished(Kind::FramePacking, Outcome::Taken, message, end)
 }
 
-pub fn orientation(s: &[u8]) -> Answer
+fn orientation(s: &[u8]) -> Answer
     requires { ⌜ Payload (now s) ⌝ }
     ensures { λ r. ⌜ r ≡ answerFor Kind.Orientation (readingOf Kind.Orientation (now (s .entry))) ⌝ }
 {
@@ -50,15 +43,11 @@ pub fn orientation(s: &[u8]) -> Answer
     let OrientationRead::Taken(a, c) = r else {
         return Answer::refused(Kind::Orientation, r.refusal());
     };
-    Answer::finished(
-        Kind::Orientation,
-        Outcome::Taken,
-        Message::Orientation(a),
-        tail(s, c),
-    )
+    let message = Message::Lasting(LastingMessage::Orientation(a));
+    Answer::finished(Kind::Orientation, Outcome::Taken, message, tail(s, c))
 }
 
-pub fn equirectangular(s: &[u8]) -> Answer
+fn equirectangular(s: &[u8]) -> Answer
     requires { ⌜ Payload (now s) ⌝ }
     ensures { λ r. ⌜ r ≡ answerFor Kind.Equirectangular (readingOf Kind.Equirectangular (now (s .entry))) ⌝ }
 {
@@ -66,15 +55,11 @@ pub fn equirectangular(s: &[u8]) -> Answer
     let EquirectangularRead::Taken(a, c) = r else {
         return Answer::refused(Kind::Equirectangular, r.refusal());
     };
-    Answer::finished(
-        Kind::Equirectangular,
-        Outcome::Taken,
-        Message::Equirectangular(a),
-        tail(s, c),
-    )
+    let message = Message::Lasting(LastingMessage::Equirectangular(a));
+    Answer::finished(Kind::Equirectangular, Outcome::Taken, message, tail(s, c))
 }
 
-pub fn rotation(s: &[u8]) -> Answer
+fn rotation(s: &[u8]) -> Answer
     requires { ⌜ Payload (now s) ⌝ }
     ensures { λ r. ⌜ r ≡ answerFor Kind.Rotation (readingOf Kind.Rotation (now (s .entry))) ⌝ }
 {
@@ -82,15 +67,11 @@ pub fn rotation(s: &[u8]) -> Answer
     let RotationRead::Taken(a, c) = r else {
         return Answer::refused(Kind::Rotation, r.refusal());
     };
-    Answer::finished(
-        Kind::Rotation,
-        Outcome::Taken,
-        Message::Rotation(a),
-        tail(s, c),
-    )
+    let message = Message::Lasting(LastingMessage::Rotation(a));
+    Answer::finished(Kind::Rotation, Outcome::Taken, message, tail(s, c))
 }
 
-pub fn alpha(s: &[u8]) -> Answer
+fn alpha(s: &[u8]) -> Answer
     requires { ⌜ Payload (now s) ⌝ }
     ensures { λ r. ⌜ r ≡ answerFor Kind.Alpha (readingOf Kind.Alpha (now (s .entry))) ⌝ }
 {
@@ -98,10 +79,11 @@ pub fn alpha(s: &[u8]) -> Answer
     let AlphaRead::Taken(a, c) = r else {
         return Answer::refused(Kind::Alpha, r.refusal());
     };
-    Answer::finished(Kind::Alpha, Outcome::Taken, Message::Alpha(a), tail(s, c))
+    let message = Message::Passing(PassingMessage::Alpha(a));
+    Answer::finished(Kind::Alpha, Outcome::Taken, message, tail(s, c))
 }
 
-pub fn region_wise(s: &[u8]) -> Answer
+fn region_wise(s: &[u8]) -> Answer
     requires { ⌜ Payload (now s) ⌝ }
     ensures { λ r. ⌜ r ≡ answerFor Kind.RegionWise (readingOf Kind.RegionWise (now (s .entry))) ⌝ }
 {
@@ -114,7 +96,7 @@ pub fn region_wise(s: &[u8]) -> Answer
     Answer::region_wise(record, tail(s, c))
 }
 
-pub fn depth(s: &[u8]) -> Answer
+fn depth(s: &[u8]) -> Answer
     requires { ⌜ Payload (now s) ⌝ }
     ensures { λ r. ⌜ r ≡ answerFor Kind.Depth (readingOf Kind.Depth (now (s .entry))) ⌝ }
 {
@@ -128,7 +110,7 @@ pub fn depth(s: &[u8]) -> Answer
 }
 
 // User data runs to the end of the payload and has no tail.
-pub fn registered(s: &[u8]) -> Answer
+fn registered(s: &[u8]) -> Answer
     requires { ⌜ Payload (now s) ⌝ }
     ensures { λ r. ⌜ r ≡ answerFor Kind.Registered (readingOf Kind.Registered (now (s .entry))) ⌝ }
 {
@@ -139,7 +121,7 @@ pub fn registered(s: &[u8]) -> Answer
     Answer::registered(a)
 }
 
-pub fn unregistered(s: &[u8]) -> Answer
+fn unregistered(s: &[u8]) -> Answer
     requires { ⌜ Payload (now s) ⌝ }
     ensures { λ r. ⌜ r ≡ answerFor Kind.Unregistered (readingOf Kind.Unregistered (now (s .entry))) ⌝ }
 {
@@ -150,4 +132,40 @@ pub fn unregistered(s: &[u8]) -> Answer
     };
     let record = r.record;
     Answer::unregistered(record)
+}
+
+// The payload s of a listed kind.
+pub fn of_kind(kind: Kind, s: &[u8]) -> Answer
+    requires { ⌜ Payload (now s) ⌝ }
+    ensures { λ r. ⌜ r ≡ answerFor kind (readingOf kind (now (s .entry))) ⌝ }
+{
+    match kind {
+        Kind::FramePacking => frame_packing(s),
+        Kind::Orientation => orientation(s),
+        Kind::Equirectangular => equirectangular(s),
+        Kind::Rotation => rotation(s),
+        Kind::RegionWise => region_wise(s),
+        Kind::Alpha => alpha(s),
+        Kind::Depth => depth(s),
+        Kind::Registered => registered(s),
+        Kind::Unregistered => unregistered(s),
+    }
+}
+
+// How it comes out, for a caller who wants no more: no record is copied on the way.
+pub fn outcome_of(kind: Kind, s: &[u8]) -> Outcome
+    requires { ⌜ Payload (now s) ⌝ }
+    ensures { λ r. ⌜ r ≡ answerFor kind (readingOf kind (now (s .entry))) .outcome ⌝ }
+{
+    match kind {
+        Kind::FramePacking => frame_packing(s).outcome,
+        Kind::Orientation => orientation(s).outcome,
+        Kind::Equirectangular => equirectangular(s).outcome,
+        Kind::Rotation => rotation(s).outcome,
+        Kind::RegionWise => region_wise(s).outcome,
+        Kind::Alpha => alpha(s).outcome,
+        Kind::Depth => depth(s).outcome,
+        Kind::Registered => registered(s).outcome,
+        Kind::Unregistered => unregistered(s).outcome,
+    }
 }

@@ -14,6 +14,13 @@ use Rattle.kind_alpha.specs.declared.Alpha.{Alpha}
 use Rattle.kind_depth.specs.declared.Depth.{Depth}
 use Rattle.kind_depth.specs.declared.element.DepthValue.{DepthValue}
 use Rattle.kind_user_data.specs.declared.registered.Registered.{Registered}
+use Rattle.answers.specs.declared.Beside.{Beside}
+use Rattle.answers.specs.declared.kind.LastingMessage.{LastingMessage}
+use Rattle.answers.specs.declared.kind.LastingMessage.the-variants as lasting
+use Rattle.answers.specs.declared.kind.PassingMessage.{PassingMessage}
+use Rattle.answers.specs.declared.kind.PassingMessage.the-variants as passing
+use Rattle.answers.specs.declared.kind.Message.{Message}
+use Rattle.answers.specs.declared.kind.Message.the-variants.{Nothing, Lasting, Passing}
 use Rattle.numbers.specs.Degrees.{degreeBits}
 use Rattle.numbers.specs.Depth.{codedBits}
 use Rattle.numbers.specs.declared.depth.DepthNumber.{DepthNumber}
@@ -163,3 +170,23 @@ depthFields a =
 
 abbrev pub registeredFields : Registered → List ℕ
 registeredFields a = a .«itu_t_t35_country_code» ∷ a .«itu_t_t35_country_code_extension_byte» ∷ []
+
+-- ---- of a message, and of the record that stands beside it
+
+abbrev pub lastingFields : Beside → LastingMessage → List ℕ
+lastingFields b (lasting.FramePacking m) = framePackingFields m
+lastingFields b (lasting.Orientation m) = orientationFields m
+lastingFields b (lasting.Equirectangular m) = equirectangularFields m
+lastingFields b (lasting.Rotation m) = rotationFields m
+lastingFields b lasting.RegionWise = regionWiseFields (b .«region_wise»)
+
+abbrev pub passingFields : Beside → PassingMessage → List ℕ
+passingFields b (passing.Alpha m) = alphaFields m
+passingFields b passing.Depth = depthFields (b .depth)
+passingFields b (passing.Registered m) = registeredFields m
+passingFields b passing.Unregistered = b .unregistered .«uuid_iso_iec_11578»
+
+abbrev pub recordFields : Beside → Message → List ℕ
+recordFields b Nothing = []
+recordFields b (Lasting m) = lastingFields b m
+recordFields b (Passing m) = passingFields b m

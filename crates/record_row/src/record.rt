@@ -1,6 +1,10 @@
-// The fields of each kind's record as numbers, after the extension count.
+// The fields of each kind's record as numbers, after the extension count; and a message's, handed out to a lent row.
+use crate::row::hand;
 use crate::row::put_identifier;
 use crate::row::put_model;
+use answers::Beside;
+use answers::kind::LastingMessage;
+use answers::kind::PassingMessage;
 use kind_alpha::Alpha;
 use kind_depth::Depth;
 use kind_depth::element::DepthValue;
@@ -25,7 +29,9 @@ ghost use lib.ListN.{length};
 ghost use lib.Seq.{sets};
 ghost use Rattle.kind_region_wise.specs.RegionWise.{most};
 ghost use Rattle.bits.specs.Signed.{twosOf};
-ghost use Rattle.record_row.specs.Fields.{framePackingFields, orientationFields, equirectangularFields, rotationFields, alphaFields, registeredFields, stateOf, depthBitsOf, valueFields, depthFields, regionFields, regionsFields, regionWiseFields};
+ghost use Rattle.lent.specs.Lent.{left};
+ghost use Rattle.record_row.specs.Handing.{handedOver};
+ghost use Rattle.record_row.specs.Fields.{framePackingFields, orientationFields, equirectangularFields, rotationFields, alphaFields, registeredFields, stateOf, depthBitsOf, valueFields, depthFields, regionFields, regionsFields, regionWiseFields, lastingFields, passingFields};
 
 pub fn frame_packing(extension: u32, a: FramePacking) -> [u64; 18]
     ensures { λ r. ⌜ r ≡ extension ∷ framePackingFields a ⌝ }
@@ -307,4 +313,66 @@ pub fn region_wise(extension: u32, a: RegionWise) -> [u64; REGION_WISE_FIELDS]
     put(&mut r, 0, &head);
     put_regions(&mut r, 9, regions);
     r
+}
+
+pub(crate) fn lasting(
+    row: &mut [u64],
+    number: u32,
+    extension: u32,
+    message: LastingMessage,
+    beside: Beside,
+) -> u32
+    ensures { λ r. ⌜ left r (now (row .exit)) ≡ handedOver number (extension ∷ lastingFields beside message) (now (row .entry)) ⌝ }
+{
+    match message {
+        LastingMessage::FramePacking(m) => {
+            let fields = frame_packing(extension, m);
+            hand(row, number, &fields)
+        }
+        LastingMessage::Orientation(m) => {
+            let fields = orientation(extension, m);
+            hand(row, number, &fields)
+        }
+        LastingMessage::Equirectangular(m) => {
+            let fields = equirectangular(extension, m);
+            hand(row, number, &fields)
+        }
+        LastingMessage::Rotation(m) => {
+            let fields = rotation(extension, m);
+            hand(row, number, &fields)
+        }
+        LastingMessage::RegionWise => {
+            let fields = region_wise(extension, beside.region_wise);
+            hand(row, number, &fields)
+        }
+    }
+}
+
+pub(crate) fn passing(
+    row: &mut [u64],
+    number: u32,
+    extension: u32,
+    message: PassingMessage,
+    beside: Beside,
+) -> u32
+    ensures { λ r. ⌜ left r (now (row .exit)) ≡ handedOver number (extension ∷ passingFields beside message) (now (row .entry)) ⌝ }
+{
+    match message {
+        PassingMessage::Alpha(m) => {
+            let fields = alpha(extension, m);
+            hand(row, number, &fields)
+        }
+        PassingMessage::Depth => {
+            let fields = depth(extension, beside.depth);
+            hand(row, number, &fields)
+        }
+        PassingMessage::Registered(m) => {
+            let fields = registered(extension, m);
+            hand(row, number, &fields)
+        }
+        PassingMessage::Unregistered => {
+            let fields = unregistered(extension, beside.unregistered);
+            hand(row, number, &fields)
+        }
+    }
 }

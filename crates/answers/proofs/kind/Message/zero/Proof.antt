@@ -1,7 +1,7 @@
--- `answers::Message::zero` meets its contract.
+-- `answers::kind::Message::zero` meets its contract.
 -- Assumes nothing.
-use Rattle.answers.proofs.Message.zero.Statement.{statement}
-use Rattle.answers.proofs.Message.zero.Tie as tie
+use Rattle.answers.proofs.kind.Message.zero.Statement.{statement}
+use Rattle.answers.proofs.kind.Message.zero.Tie as tie
 
 pub zero-spec : {M : Type 1} → statement M
 zero-spec =

@@ -1,4 +1,4 @@
--- `record_row::handing::hand` meets its contract: the room is judged before anything is written.
+-- `record_row::row::hand` meets its contract: the room is judged before anything is written.
 -- Assumes nothing.
 use Prim.Native.Nat.{_≤_, _<_}
 use mathlib.Core.Path.{ap, _∙_}
@@ -7,8 +7,8 @@ use borrow.Author.Needs.{needs}
 use lib.ListN.{length}
 use Rattle.bits.specs.Refusals.{refusalNumber}
 use Rattle.record_row.proofs.HandingLaws.{few, fitting}
-use Rattle.record_row.proofs.handing.hand.Statement.{statement}
-use Rattle.record_row.proofs.handing.hand.Tie as tie
+use Rattle.record_row.proofs.row.hand.Statement.{statement}
+use Rattle.record_row.proofs.row.hand.Tie as tie
 
 returns : tie.Need-returns
 returns c =
