@@ -2,6 +2,7 @@
 use print::ROOM;
 use print::numbered;
 use print::text;
+use show::kind::list;
 use show::number::sentence;
 
 fn meaning(out: &mut [u8; ROOM], n: u32) {
@@ -49,20 +50,18 @@ fn calls(out: &mut [u8; ROOM]) {
         \x20 help                            this text\n\
         size=N states another size than the bytes have.\n\
         Of a read or a feed the answer is CALL: NUMBER WORDS NAME=VALUE NAME=VALUE .., with one space before each name and none in a name or value.\n\
-        CALL ends at the line's last colon and space; lines below that begin with spaces have more of the fields.\n\n\
-        Kinds (payloadType):\n\
-        \x20 4 user data registered by T.35   5 user data unregistered       45 frame packing arrangement\n\
-        \x20 47 display orientation           150 equirectangular projection 154 sphere rotation\n\
-        \x20 155 region-wise packing          165 alpha channel information  177 depth representation information\n\n",
+        CALL ends at the line's last colon and space; lines below that begin with spaces have more of the fields.\n\n",
     );
 }
 
 pub fn help(out: &mut [u8; ROOM]) {
     usage(out);
     calls(out);
+    text(out, b"Kinds (payloadType):\n");
+    list(out);
     text(
         out,
-        b"Numbers that a call answers (0 is done for a call that reads nothing):",
+        b"\nNumbers that a call answers (0 is done for a call that reads nothing):",
     );
     meanings(out);
     text(out, b"\n");

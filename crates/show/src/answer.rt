@@ -1,51 +1,17 @@
-// Records by their kinds, and what a reader answers: its number and, unless it is a refusal, the fields of the record.
-use crate::depth_names::depth_information;
+// Held records, and what a reader answers: its number and, unless it is a refusal, the fields of the record.
 use crate::emulation::emulation;
 use crate::field::NONE;
 use crate::field::Place;
 use crate::field::fields;
 use crate::kind;
-use crate::names::alpha;
-use crate::names::equirectangular;
-use crate::names::frame_packing;
-use crate::names::orientation;
 use crate::number::hint;
 use crate::number::read;
 use crate::number::sentence;
-use crate::region_names::region_wise;
-use crate::rotation_names::rotation;
 use crate::style::Style;
-use crate::user_names::registered;
-use crate::user_names::unregistered;
 use print::ROOM;
 use print::number;
 use print::numbered;
 use print::text;
-
-// The row of a kind. A payload says how guard band types are coded, part is what follows the head of kinds 4 and 5, and a message of kind 45
-// may be set aside.
-fn record(
-    out: &mut [u8; ROOM],
-    style: Style,
-    kind: u64,
-    row: &[u64],
-    payload: &[u8],
-    part: &[u8],
-    aside: bool,
-) {
-    match kind {
-        4 => registered(out, style, row, part),
-        5 => unregistered(out, style, row, part),
-        45 => frame_packing(out, style, row, aside),
-        47 => orientation(out, style, row),
-        150 => equirectangular(out, style, row, payload),
-        154 => rotation(out, style, row),
-        155 => region_wise(out, style, row, payload),
-        165 => alpha(out, style, row),
-        177 => depth_information(out, style, row),
-        _ => {}
-    }
-}
 
 // A kind by number and name, on a line of its own.
 fn named(out: &mut [u8; ROOM], kind: u64) {
@@ -58,7 +24,7 @@ fn named(out: &mut [u8; ROOM], kind: u64) {
 // A held record, explained. The payload that it came from is gone.
 pub fn held(out: &mut [u8; ROOM], kind: u64, row: &[u64]) {
     named(out, kind);
-    record(out, Style::Explained, kind, row, b"", b"", false);
+    kind::record(out, Style::Explained, kind, row, b"", b"", false);
 }
 
 fn extension(out: &mut [u8; ROOM], style: Style, row: &[u64]) {
@@ -115,7 +81,7 @@ pub fn answer(
     match n {
         0 | 20 => {
             extension(out, style, row);
-            record(out, style, asked.kind, row, payload, part, n == 20);
+            kind::record(out, style, asked.kind, row, payload, part, n == 20);
         }
         _ => {}
     }

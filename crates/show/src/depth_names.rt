@@ -58,7 +58,7 @@ fn specified(out: &mut [u8; ROOM], row: &[u64], from: usize)
 
 // The name of one of the four, or of what codes it, by its end.
 fn name(out: &mut [u8; ROOM], flag: usize, end: &[u8]) {
-    piece(out, b"|ZNear|ZFar|DMin|DMax", flag as u64);
+    piece(out, b"|z_near|z_far|d_min|d_max", flag as u64);
     text(out, end);
 }
 
@@ -76,21 +76,20 @@ fn value(out: &mut [u8; ROOM], row: &[u64], flag: usize, from: usize)
     }
 }
 
-// What codes it, by a name of Table 18.
-fn variable(out: &mut [u8; ROOM], flag: usize, end: &[u8], n: u64) {
+// A part of what codes it, by its name in depth_rep_info_element.
+fn part(out: &mut [u8; ROOM], flag: usize, end: &[u8], n: u64) {
     text(out, b" ");
     name(out, flag, end);
     number(out, n);
 }
 
-fn variables(out: &mut [u8; ROOM], row: &[u64], flag: usize, from: usize)
+fn parts(out: &mut [u8; ROOM], row: &[u64], flag: usize, from: usize)
     requires { ⌜ from ≤ 256 ⌝ }
 {
-    let length = at(row, from + 2) % 32 + 1;
-    variable(out, flag, b"Sign=", at(row, from));
-    variable(out, flag, b"Exp=", at(row, from + 1));
-    variable(out, flag, b"Mantissa=", at(row, from + 3));
-    variable(out, flag, b"ManLen=", length);
+    part(out, flag, b".da_sign_flag=", at(row, from));
+    part(out, flag, b".da_exponent=", at(row, from + 1));
+    part(out, flag, b".da_mantissa_len_minus1=", at(row, from + 2));
+    part(out, flag, b".da_mantissa=", at(row, from + 3));
 }
 
 // What a number measures, where it is explained: the first two of the four are depths.
@@ -111,7 +110,7 @@ fn coded(out: &mut [u8; ROOM], style: Style, row: &[u64], flag: usize)
 {
     let from = 6 * flag + 1;
     value(out, row, flag, from);
-    variables(out, row, flag, from);
+    parts(out, row, flag, from);
     measured(out, style, flag);
 }
 

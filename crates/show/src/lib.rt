@@ -6,7 +6,7 @@ mod emulation;
 mod field;
 mod fraction;
 mod guard;
-mod kind;
+pub mod kind;
 mod names;
 pub mod number;
 mod region_names;

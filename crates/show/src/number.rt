@@ -1,4 +1,5 @@
 // The number that a caller gets: in a word or two, in a sentence, and where to look.
+use crate::kind;
 use print::ROOM;
 use print::byte;
 use print::number;
@@ -35,7 +36,7 @@ pub fn sentence(out: &mut [u8; ROOM], n: u32) {
     piece(
         out,
         b"Taken: the payload is a message within the rules.|\
-        Refused: the kind is none of the nine that are read.|\
+        Refused: the kind is none of those that are read.|\
         Refused: the stated size exceeds 8192 or the bytes that are there.|\
         Refused: the payload ends before its message does.|\
         Refused: a ue(v) number starts with 32 zero bits.|\
@@ -50,39 +51,32 @@ pub fn sentence(out: &mut [u8; ROOM], n: u32) {
     );
 }
 
-// The place of a broken rule's hint below, by the kind.
-fn rule_place(kind: u64) -> u64 {
-    match kind {
-        154 => 9,
-        155 => 10,
-        _ => 5,
-    }
-}
-
-// The place of a number's hint below: 1 to 7 are their own.
-fn hint_place(n: u32, kind: u64) -> u64 {
-    match n {
-        5 => rule_place(kind),
-        20 => 8,
-        _ => n as u64,
-    }
-}
-
 // Where to look when a payload of the kind is not taken.
 pub(crate) fn hint(out: &mut [u8; ROOM], n: u32, kind: u64) {
-    piece(
-        out,
-        b"|\
-        the kind number (payloadType): 4, 5, 45, 47, 150, 154, 155, 165 or 177.|\
-        whether the size counts a header too, or the capture lost bytes.|\
-        whether the kind is right, and whether the capture lost bytes at the end.|\
-        whether the kind is right: so many zeros are padding and no message.|\
-        depth_representation_type is at most 15, depth_nonlinear_representation_num_minus1 at most 62, a listed number at most 65535.|\
-        the second byte, rwp_num_packed_regions.|\
-        the last byte: it needs a one bit after the message; zero bytes at the end are not permitted.|\
-        fp_arrangement_id (256 to 511 and 2147483648 on are reserved), the type (3, 4 or 5) and the interpretation (0 to 2).|\
-        yaw and roll go from -180 to below 180 degrees, pitch from -90 to 90.|\
-        regions and picture sizes are at least 1; a guard band type 0 needs rwp_guard_band_not_used_for_pred_flag=1.",
-        hint_place(n, kind),
-    );
+    match n {
+        1 => kind::number_hint(out),
+        2 => text(
+            out,
+            b"whether the size counts a header too, or the capture lost bytes.",
+        ),
+        3 => text(
+            out,
+            b"whether the kind is right, and whether the capture lost bytes at the end.",
+        ),
+        4 => text(
+            out,
+            b"whether the kind is right: so many zeros are padding and no message.",
+        ),
+        5 => kind::rule_hint(out, kind),
+        6 => text(out, b"the second byte, rwp_num_packed_regions."),
+        7 => text(
+            out,
+            b"the last byte: it needs a one bit after the message; zero bytes at the end are not permitted.",
+        ),
+        20 => text(
+            out,
+            b"fp_arrangement_id (256 to 511 and 2147483648 on are reserved), the type (3, 4 or 5) and the interpretation (0 to 2).",
+        ),
+        _ => {}
+    }
 }
