@@ -4,11 +4,12 @@
 use Prim.Native.Nat.{ℕ}
 use mathlib.Core.Path.{_≡_, refl, sym, ap, _∙_}
 use mathlib.Core.Logic.{_≢_, _↔_}
-use mathlib.Core.Bool.{Bool, true, false, cond}
+use mathlib.Core.Bool.{Bool, true, false}
 use mathlib.Core.List.{List, [], _∷_}
 use native.Mathlib.Omega.{arith}
 use borrow.Author.Tests.{eqb-true}
 use lib.Dec.{eqb}
+use Rattle.bits.specs.Choice.{if_then_else_}
 use Rattle.bits.specs.declared.refusal.Refusal.{Refusal}
 use Rattle.format.specs.Faithful.{Faithful}
 use Rattle.format.specs.Whole.{refused}
@@ -59,7 +60,7 @@ listed-in : (ks : List Kind) (n : ℕ) {k : Kind} → namedIn ks n ≡ Listed k 
 listed-in [] n e = let z : _≡_ {A = ℕ} 0 1 = cc in absurd (omega arith)
 listed-in (j ∷ ks) n {k} e = go (eqb n (number j)) refl (listed-in ks n) e
   where
-    go : (b : Bool) → eqb n (number j) ≡ b → (namedIn ks n ≡ Listed k → n ≡ number k) → cond b (Listed j) (namedIn ks n) ≡ Listed k → n ≡ number k
+    go : (b : Bool) → eqb n (number j) ≡ b → (namedIn ks n ≡ Listed k → n ≡ number k) → (if b then Listed j else namedIn ks n) ≡ Listed k → n ≡ number k
     go true h later e = eqb-true n (number j) h ∙ ap number (same-kind e)
     go false h later e = later e
 

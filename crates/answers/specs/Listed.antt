@@ -1,9 +1,10 @@
 -- The kinds of RULES 4: number, record, how a payload of the kind is read as a whole, and what an answer has of its record.
 use Prim.Native.Nat.{ℕ}
 use mathlib.Core.Path.{_≡_}
-use mathlib.Core.Bool.{Bool, true, false, cond, _||_}
+use mathlib.Core.Bool.{Bool, true, false, _||_}
 use mathlib.Core.List.{List, [], _∷_}
 use lib.Dec.{eqb}
+use Rattle.bits.specs.Choice.{if_then_else_}
 use Rattle.bits.specs.Bits.{bitsOf}
 use Rattle.format.specs.Format.{Format}
 use Rattle.format.specs.Format as format
@@ -154,7 +155,7 @@ listedKinds =
 -- the first of these kinds that has the number n
 abbrev pub namedIn : List Kind → ℕ → Named
 namedIn [] n = Unlisted
-namedIn (k ∷ ks) n = cond (eqb n (number k)) (Listed k) (namedIn ks n)
+namedIn (k ∷ ks) n = if eqb n (number k) then Listed k else namedIn ks n
 
 -- the kind that a number names, if it names one
 unfoldable pub named : ℕ → Named

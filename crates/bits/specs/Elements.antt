@@ -1,9 +1,10 @@
 -- What reading an element finds at the front of the bits w: its number and how many bits it took, or a refusal.
 use Prim.Native.Nat.{ℕ, zero, suc, _+_, _-_, _^_}
-use mathlib.Core.Bool.{Bool, true, false, cond}
+use mathlib.Core.Bool.{Bool, true, false}
 use mathlib.Core.List.{List, [], _∷_}
 use lib.ListN.{length, take}
 use lib.Dec.{leb}
+use Rattle.bits.specs.Choice.{if_then_else_}
 use Rattle.bits.specs.Bits.{from, unsignedOf}
 use Rattle.bits.specs.Coding.{Shape, unsigned, expGolomb}
 use Rattle.bits.specs.Out.{Out, taken, refused, placed}
@@ -11,7 +12,7 @@ use Rattle.bits.specs.declared.refusal.Refusal.the-variants.{Short, Zero
 
 -- u(n)
 unfoldable pub uFront : ℕ → List Bool → Out ℕ
-uFront n w = cond (leb n (length w)) (taken (unsignedOf (take n w)) n) (refused Short)
+uFront n w = if leb n (length w) then taken (unsignedOf (take n w)) n else refused Short
 
 -- the meaning of a ue(v) with z zeros whose z last bits make x: 2 ^ z - 1 + x
 abbrev pub meant : ℕ → Out ℕ → Out ℕ

@@ -1,9 +1,10 @@
 -- The end of a payload: w is all that is left of it after its message.
 use Prim.Native.Nat.{ℕ, suc, _+_}
-use mathlib.Core.Bool.{Bool, true, false, cond}
+use mathlib.Core.Bool.{Bool, true, false}
 use mathlib.Core.List.{List, [], _∷_}
 use lib.ListN.{length}
 use lib.Dec.{leb}
+use Rattle.bits.specs.Choice.{if_then_else_}
 use Rattle.bits.specs.Bits.{from}
 use Rattle.bits.specs.Refusals.{refusalNumber}
 use Rattle.bits.specs.declared.ending.Ending.{Ending}
@@ -32,7 +33,7 @@ endingNumber (Refused r) = refusalNumber r
 -- the last one bit must exist and lie in the final byte; the bits before it are the extension
 abbrev pub judged : ℕ → Last → Ending
 judged n none = Refused Tail
-judged n (at i) = cond (leb n (i + 8)) (Extension i) (Refused Tail)
+judged n (at i) = if leb n (i + 8) then Extension i else Refused Tail
 
 -- with nothing left there is no tail
 unfoldable pub tailOf : List Bool → Ending

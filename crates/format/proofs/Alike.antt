@@ -3,7 +3,7 @@
 use Prim.Native.Nat.{ℕ, suc, _+_, _^_, _≤_, _<_}
 use mathlib.Core.Path.{_≡_, refl, sym, ap, ap₂, _∙_, subst}
 use mathlib.Core.Logic.{_↔_, _⊎_, inl, inr}
-use mathlib.Core.Bool.{Bool, true, false, cond}
+use mathlib.Core.Bool.{Bool, true, false}
 use mathlib.Core.List.{List, _∷_, _++_}
 use native.Mathlib.Nat.{pow-suc}
 use native.Mathlib.Omega.{arith}
@@ -11,6 +11,7 @@ use lib.ListN.{length, take, drop, replicate, length-append, length-replicate}
 use lib.Pow.{pow-pos, pow-mono}
 use lib.Seq.{take-at, drop-at}
 use borrow.Author.Tests.{le-leb, lt-leb}
+use Rattle.bits.specs.Choice.{if_then_else_}
 use Rattle.bits.specs.Bits.{unsignedOf}
 use Rattle.bits.specs.Refusals.{Verdict, fine}
 use Rattle.bits.specs.Out.{taken}
@@ -78,7 +79,7 @@ one-length expGolomb w v c x y = go (bounds w c x) (bounds v c y) (below (x .zer
 same-length : (e : Element) (w v : List Bool) (c d : ℕ) → CodedShape (e .shape) w c → CodedShape (e .shape) v d → handed e d ≡ handed e c → length v ≡ length w
 same-length e w v c d = go (e .shape)
   where
-    go : (h : Shape) → CodedShape h w c → CodedShape h v d → cond (silentIn h (e .reserved) d) 0 d ≡ cond (silentIn h (e .reserved) c) 0 c → length v ≡ length w
+    go : (h : Shape) → CodedShape h w c → CodedShape h v d → (if silentIn h (e .reserved) d then 0 else d) ≡ (if silentIn h (e .reserved) c then 0 else c) → length v ≡ length w
     go (unsigned n) x y m = y .long ∙ sym (x .long)
     go expGolomb x y m = one-length expGolomb v w d y (subst (CodedExpGolomb w) (sym m) x)
 
@@ -105,7 +106,7 @@ record Instead (e : Element) (v : List Bool) (c : ℕ) : Type 0 where
 instead : (e : Element) (w v : List Bool) (c : ℕ) → CodedShape (e .shape) w c → Varied e w v c → Instead e v c
 instead e w v c x (same s) = record { code = c; element = subst (λ b. CodedShape (e .shape) b c) (sym s) x; hands = refl; judges = refl }
 instead e w v c x (silent-both d y s t) =
-    record { code = d; element = y; hands = ap (λ b. cond b 0 d) t ∙ sym (ap (λ b. cond b 0 c) s); judges = ap (λ b. cond b fine (e .rule d)) t ∙ sym (ap (λ b. cond b fine (e .rule c)) s) }
+    record { code = d; element = y; hands = ap (λ b. if b then 0 else d) t ∙ sym (ap (λ b. if b then 0 else c) s); judges = ap (λ b. if b then fine else e .rule d) t ∙ sym (ap (λ b. if b then fine else e .rule c) s) }
 
 -- In the words of demand 3: any bits may stand in place of ignored ones, and any code from 4 on in place of a guard band type from 4 on.
 pub ignored-vary : (n : ℕ) (w v : List Bool) (c : ℕ) → length v ≡ n → Varied (ignoredBits n) w v c
@@ -123,7 +124,7 @@ guard-plain rule c = (λ h. go (below c 4) h, λ h. rw (lt-leb 4 c h))
   where
     go : (c < 4) ⊎ (4 ≤ c) → handed (guardType must rule) c ≡ c → c < 4
     go (inl l) h = l
-    go (inr l) h = let z : 0 ≡ c = sym (ap (λ t. cond t 0 c) (le-leb 4 c l)) ∙ h in omega arith
+    go (inr l) h = let z : 0 ≡ c = sym (ap (λ t. if t then 0 else c) (le-leb 4 c l)) ∙ h in omega arith
 
 module _ {R A : Type 0} where
   pub variation-alike : (f : Format R A) (w v : List Bool) → Variation f w v → Alike f w v

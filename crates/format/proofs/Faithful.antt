@@ -2,11 +2,12 @@
 -- Assumes nothing.
 use Prim.Native.Nat.{ℕ, _^_}
 use mathlib.Core.Path.{_≡_, refl, sym, ap, ap₂, _∙_, subst}
-use mathlib.Core.Bool.{Bool, true, false, cond, _&&_}
+use mathlib.Core.Bool.{Bool, true, false, _&&_}
 use mathlib.Core.List.{List, _++_}
 use lib.ListN.{length}
 use lib.Pow.{pow-pos}
 use borrow.Author.Tests.{eq-eqb, lt-ltb}
+use Rattle.bits.specs.Choice.{if_then_else_}
 use Rattle.bits.specs.Coding.{Shape, unsigned, expGolomb, CodedShape}
 use Rattle.format.specs.Format.{silent, handed, Format, done, read, asks, _>>=_, _of_, zeros, allZero}
 use Rattle.format.specs.Syntax.{whenElse, when}
@@ -86,7 +87,7 @@ fits-zero : (h : Shape) → fits h 0 ≡ true
 fits-zero (unsigned n) = lt-ltb 0 (2 ^ n) (pow-pos n)
 fits-zero expGolomb = refl
 
-hands-zero : (t : Bool) → _≡_ {A = ℕ} (cond t 0 0) 0
+hands-zero : (t : Bool) → _≡_ {A = ℕ} (if t then 0 else 0) 0
 hands-zero true = refl
 hands-zero false = refl
 

@@ -134,6 +134,14 @@ module _ {R A B : Type 0} {t : Bool} (f : Format R A) (k : A → Format R B) (s 
   pub step-absent : t ≡ false → runAt (when t f >>= k) s p ≡ runAt (k (zeros f)) s p
   step-absent e = step-part (when t f) k s p ∙ ap (λ o. after o (λ a q. runAt (k a) s q)) (step-no f s p e)
 
+-- and where more of the part that it stands in follows, and then more of the table
+module _ {R A B C : Type 0} {t : Bool} (f : Format R A) (g : A → Format R B) (k : B → Format R C) (s : List ℕ) (p : ℕ) where
+  pub step-there-within : t ≡ true → runAt (when t f >>= g >>= k) s p ≡ runAt (f >>= g >>= k) s p
+  step-there-within e = rw e
+
+  pub step-absent-within : t ≡ false → runAt (when t f >>= g >>= k) s p ≡ runAt (g (zeros f) >>= k) s p
+  step-absent-within e = rw e (step-asks (allZero f) (g (zeros f) >>= k) s p)
+
 -- a part of a record is read by its own format
 pub step-own : {R S A : Type 0} (f : Format S A) (h : R → S) (s : List ℕ) (p : ℕ) → runAt (f of h) s p ≡ runAt f s p
 step-own {R} {S} (done a) h s p = step-done R a s p ∙ sym (step-done S a s p)
@@ -214,6 +222,11 @@ next a k g e h = record { x = a .x; k = k; is = a .is ∙ rw (g, e) h }
 -- the last one gave a value: what is left of the whole comes to y
 pub last : {A B : Type 0} {o : Out A} {v : A} {p : ℕ} {y : Out B} (a : At B o) → o ≡ taken v p → a .k v p ≡ y → y ≡ a .x
 last a g e = sym (a .is ∙ rw g e)
+
+-- where the ways with a part and without it meet, with y for it: what follows it is left
+abbrev pub meet : {R A B C D : Type 0} {o : Out D} {v : D} {q : ℕ} (t : Bool) (f : Format R A) (g : A → Format R B) (k : B → Format R C) (s : List ℕ) (p : ℕ)
+    (a : At C o) → o ≡ taken v q → a .k v q ≡ runAt (when t f >>= g >>= k) s p → (y : A) (r : ℕ) → a .x ≡ runAt (g y >>= k) s r → At C (taken y r)
+meet t f g k s p a e h y r l = record { x = a .x; k = λ y r. runAt (g y >>= k) s r; is = l }
 
 -- it was refused, and so is the whole
 pub stop : {A B : Type 0} {o : Out A} {r t : Refusal} (a : At B o) → o ≡ refused r → t ≡ refusalIn o → refused t ≡ a .x

@@ -1,8 +1,9 @@
 -- A message's syntax as a value: which elements stand one after another, where the number of each stands in a record, and what becomes of
 -- them. Nothing here reads or writes.
 use Prim.Native.Nat.{ℕ}
-use mathlib.Core.Bool.{Bool, true, false, cond, _&&_}
+use mathlib.Core.Bool.{Bool, true, false, _&&_}
 use lib.Dec.{eqb}
+use Rattle.bits.specs.Choice.{if_then_else_}
 use Rattle.bits.specs.Refusals.{Verdict, fine}
 use Rattle.bits.specs.Coding.{Shape, unsigned, expGolomb}
 
@@ -22,11 +23,11 @@ silent e c = silentIn (e .shape) (e .reserved) c
 
 -- what is handed out for a code: itself, and 0 for one that says nothing
 abbrev pub handed : Element → ℕ → ℕ
-handed e c = cond (silent e c) 0 c
+handed e c = if silent e c then 0 else c
 
 -- what the element's rule says of a code; a code that says nothing is fine
 abbrev pub verdict : Element → ℕ → Verdict
-verdict e c = cond (silent e c) fine (e .rule c)
+verdict e c = if silent e c then fine else e .rule c
 
 -- A format of a record R: a value that is there without an element; an element, where its number stands in a record, and, for each number that is
 -- handed out for it, the format of what follows; or what a record must have here to be written, which a reading passes over.

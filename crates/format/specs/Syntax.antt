@@ -1,12 +1,13 @@
 -- The words in which the tables of the messages are written: u(n), ue(v), b(8), i(32), bytes, ignored bits, guard band types, rules, parts that
 -- may be absent, and lists. An element of a table is one line: its name, its descriptor, its rule if it has one, and where its number stands.
 use Prim.Native.Nat.{ℕ, zero, suc, _+_, _-_, _*_}
-use mathlib.Core.Bool.{Bool, true, false, cond, _&&_, _||_}
+use mathlib.Core.Bool.{Bool, true, false, _&&_, _||_}
 use mathlib.Core.List.{List, [], _∷_, _++_}
 use lib.ListN.{length, replicate, drop, getD}
 use lib.Dec.{leb, eqb}
 use lib.IntN.{ℤ}
 use lib.Signed.{leZ}
+use Rattle.bits.specs.Choice.{if_then_else_}
 use Rattle.bits.specs.Refusals.{Breach, broken, Verdict, fine, against}
 use Rattle.bits.specs.Coding.{unsigned, expGolomb}
 use Rattle.bits.specs.Signed.{signedOf, twosOf}
@@ -97,7 +98,7 @@ usable notUsed c = broken unless (eqb notUsed 1 || leb 1 c)
 
 -- a part that is there where the test holds; where it is absent, a record has what `gone` says, and z stands for it
 abbrev pub whenElse : {R A : Type 0} → Bool → Format R A → (R → Bool) → A → Format R A
-whenElse t f gone z = cond t f (asks gone (done z))
+whenElse t f gone z = if t then f else asks gone (done z)
 
 -- the same of a part whose numbers are 0, each of them, where it is absent
 abbrev pub when : {R A : Type 0} → Bool → Format R A → Format R A

@@ -1,9 +1,10 @@
 -- Writing by a format: the bits of a record's numbers, element by element; or why there are none.
 use Prim.Native.Nat.{ℕ, zero, suc, _-_, _/_, _%_, _^_}
-use mathlib.Core.Bool.{Bool, true, false, cond, _&&_}
+use mathlib.Core.Bool.{Bool, true, false, _&&_}
 use mathlib.Core.List.{List, [], _∷_, _++_}
 use lib.ListN.{replicate}
 use lib.Dec.{leb, ltb, eqb}
+use Rattle.bits.specs.Choice.{if_then_else_}
 use Rattle.bits.specs.Refusals.{Breach, Verdict, fine, against}
 use Rattle.bits.specs.Coding.{Shape, unsigned, expGolomb}
 use Rattle.format.specs.Format.{Element, handed, verdict, Format, done, read, asks}
@@ -18,7 +19,7 @@ digits (suc n) c = eqb (c / 2 ^ n) 1 ∷ digits n (c % 2 ^ n)
 -- the largest z, at most k, with 2 ^ z at most c
 unfoldable pub log : ℕ → ℕ → ℕ
 log zero c = 0
-log (suc k) c = cond (leb (2 ^ suc k) c) (suc k) (log k c)
+log (suc k) c = if leb (2 ^ suc k) c then suc k else log k c
 
 unfoldable pub code : Shape → ℕ → List Bool
 code (unsigned n) c = digits n c

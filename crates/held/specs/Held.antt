@@ -1,6 +1,6 @@
 -- What a slot holds: of each of five kinds one record, or nothing.
-use mathlib.Core.Bool.{cond}
 use lib.Dec.{eqb}
+use Rattle.bits.specs.Choice.{if_then_else_}
 use Rattle.format.specs.Format.{zeros}
 use Rattle.kind_frame_packing.specs.declared.FramePacking.{FramePacking}
 use Rattle.kind_frame_packing.specs.FramePacking as frame-packing
@@ -39,36 +39,36 @@ noRegionWise = record { on = 0; value = zeros region-wise.table }
 -- ---- "a taken message replaces the held one, a cancel leaves nothing"
 
 unfoldable pub takenFramePacking : FramePacking → HeldFramePacking
-takenFramePacking x = cond (eqb (x .«fp_arrangement_cancel_flag») 0) (record { on = 1; value = x }) noFramePacking
+takenFramePacking x = if eqb (x .«fp_arrangement_cancel_flag») 0 then record { on = 1; value = x } else noFramePacking
 
 unfoldable pub takenOrientation : Orientation → HeldOrientation
-takenOrientation x = cond (eqb (x .«display_orientation_cancel_flag») 0) (record { on = 1; value = x }) noOrientation
+takenOrientation x = if eqb (x .«display_orientation_cancel_flag») 0 then record { on = 1; value = x } else noOrientation
 
 unfoldable pub takenEquirectangular : Equirectangular → HeldEquirectangular
-takenEquirectangular x = cond (eqb (x .«erp_cancel_flag») 0) (record { on = 1; value = x }) noEquirectangular
+takenEquirectangular x = if eqb (x .«erp_cancel_flag») 0 then record { on = 1; value = x } else noEquirectangular
 
 unfoldable pub takenRotation : Rotation → HeldRotation
-takenRotation x = cond (eqb (x .«sphere_rotation_cancel_flag») 0) (record { on = 1; value = x }) noRotation
+takenRotation x = if eqb (x .«sphere_rotation_cancel_flag») 0 then record { on = 1; value = x } else noRotation
 
 unfoldable pub takenRegionWise : RegionWise → HeldRegionWise
-takenRegionWise x = cond (eqb (x .«rwp_cancel_flag») 0) (record { on = 1; value = x }) noRegionWise
+takenRegionWise x = if eqb (x .«rwp_cancel_flag») 0 then record { on = 1; value = x } else noRegionWise
 
 -- ---- a picture call "drops each whose persistence flag is 0"
 
 unfoldable pub keptFramePacking : HeldFramePacking → HeldFramePacking
-keptFramePacking h = cond (eqb (h .value .layout .«fp_arrangement_persistence_flag») 0) noFramePacking h
+keptFramePacking h = if eqb (h .value .layout .«fp_arrangement_persistence_flag») 0 then noFramePacking else h
 
 unfoldable pub keptOrientation : HeldOrientation → HeldOrientation
-keptOrientation h = cond (eqb (h .value .«display_orientation_persistence_flag») 0) noOrientation h
+keptOrientation h = if eqb (h .value .«display_orientation_persistence_flag») 0 then noOrientation else h
 
 unfoldable pub keptEquirectangular : HeldEquirectangular → HeldEquirectangular
-keptEquirectangular h = cond (eqb (h .value .«erp_persistence_flag») 0) noEquirectangular h
+keptEquirectangular h = if eqb (h .value .«erp_persistence_flag») 0 then noEquirectangular else h
 
 unfoldable pub keptRotation : HeldRotation → HeldRotation
-keptRotation h = cond (eqb (h .value .«sphere_rotation_persistence_flag») 0) noRotation h
+keptRotation h = if eqb (h .value .«sphere_rotation_persistence_flag») 0 then noRotation else h
 
 unfoldable pub keptRegionWise : HeldRegionWise → HeldRegionWise
-keptRegionWise h = cond (eqb (h .value .«rwp_persistence_flag») 0) noRegionWise h
+keptRegionWise h = if eqb (h .value .«rwp_persistence_flag») 0 then noRegionWise else h
 
 -- ---- all five
 

@@ -2,10 +2,11 @@
 -- Assumes nothing.
 use Prim.Native.Nat.{ℕ, _≤_, _<_}
 use mathlib.Core.Path.{_≡_, refl, sym, ap, _∙_}
-use mathlib.Core.Bool.{Bool, true, false, cond}
+use mathlib.Core.Bool.{Bool, true, false}
 use mathlib.Core.List.{List, [], _∷_}
 use lib.Dec.{leb}
 use lib.ListN.{length, take, drop}
+use Rattle.bits.specs.Choice.{if_then_else_}
 use Rattle.bits.specs.Refusals as refusals
 use Rattle.lent.specs.Lent.{Left, left, over}
 use Rattle.answers.specs.Answer.{answerNumber}
@@ -72,7 +73,7 @@ unfolding handedOver
 handed-but-first n e d fields row = go (leb (length (e ∷ fields)) (length row))
   where
     By : Bool → ℕ → Left ℕ
-    By b x = cond b (left n (over (x ∷ fields) row)) (left (refusals.refusalNumber refusals.byRows) row)
+    By b x = if b then left n (over (x ∷ fields) row) else left (refusals.refusalNumber refusals.byRows) row
 
     go : (b : Bool) → SameButFirst (By b e) (By b d)
     go true = record { answered = refl; long = refl; rest = refl }

@@ -2,13 +2,14 @@
 -- Assumes nothing.
 use Prim.Native.Nat.{ℕ, suc, _+_, _*_}
 use mathlib.Core.Path.{_≡_, refl, sym, ap, subst}
-use mathlib.Core.Bool.{Bool, true, false, cond}
+use mathlib.Core.Bool.{Bool, true, false}
 use mathlib.Core.List.{List, [], _∷_}
 use native.Mathlib.Omega.{arith}
 use lib.Dec.{eqb}
 use lib.ListN.{length, take}
 use lib.Seq.{take-at}
 use borrow.Author.Tests.{eqb-false}
+use Rattle.bits.specs.Choice.{if_then_else_}
 use Rattle.bits.specs.Out.{taken}
 use Rattle.format.specs.Format.{_of_}
 use Rattle.format.specs.Reading.{runAt}
@@ -23,13 +24,13 @@ use Rattle.kind_region_wise.specs.RegionWise.{most, region, regionWise}
 
 -- 1 for a region without guard bands, and for one with them
 abbrev pub without : Region → ℕ
-without r = cond (eqb (r .«rwp_guard_band_flag») 1) 0 1
+without r = if eqb (r .«rwp_guard_band_flag») 1 then 0 else 1
 
 abbrev pub with-bands : Region → ℕ
-with-bands r = cond (eqb (r .«rwp_guard_band_flag») 1) 1 0
+with-bands r = if eqb (r .«rwp_guard_band_flag») 1 then 1 else 0
 
 -- it is with them or without
-one-each : (t : Bool) → cond {A = ℕ} t 0 1 + cond t 1 0 ≡ 1
+one-each : (t : Bool) → (if t then 0 else 1) + (if t then 1 else 0) ≡ 1
 one-each true = refl
 one-each false = refl
 

@@ -1,7 +1,7 @@
 -- Kind 4: H.274 8.3.1, user_data_registered_itu_t_t35( payloadSize ), up to its payload bytes.
 use Prim.Native.Nat.{ℕ}
-use mathlib.Core.Bool.{cond}
 use lib.Dec.{eqb}
+use Rattle.bits.specs.Choice.{if_then_else_}
 use Rattle.bits.specs.Out.{Out, taken, refused}
 use Rattle.format.specs.Format.{Format, done, _>>=_}
 use Rattle.format.specs.Syntax.{b, _at_, when}
@@ -22,7 +22,7 @@ registered = table
 
 -- how many bytes the head takes
 abbrev pub headBytes : Registered → ℕ
-headBytes a = cond (eqb (a .«itu_t_t35_country_code») 255) 2 1
+headBytes a = if eqb (a .«itu_t_t35_country_code») 255 then 2 else 1
 
 abbrev pub outOf : RegisteredRead → Out Registered
 outOf (Taken a c) = taken a (c .at)

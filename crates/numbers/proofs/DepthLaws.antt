@@ -5,13 +5,14 @@ use mathlib.Core.Path.{_≡_, refl, sym, ap, _∙_, subst}
 use Prim.Native.Nat.{ℕ, zero, suc, _+_, _-_, _*_, _^_, _≤_, _<_}
 use native.Mathlib.Nat.{add-sub-cancel-left, lt-of-lt-of-le, mul-assoc, mul-comm, pow-succ'}
 use native.Mathlib.Omega.{arith}
-use mathlib.Core.Bool.{Bool, true, false, cond}
+use mathlib.Core.Bool.{Bool, true, false}
 use borrow.Author.Tests.{eqb-true}
 use lib.Dec.{eqb}
 use lib.IntN.{pos}
 use lib.Pow.{pow-add, pow-pos, pow-mono}
 use lib.Ieee.{fin, binary64, ofBits, toBits}
 use lib.Ieee.Exact.{HasValue}
+use Rattle.bits.specs.Choice.{if_then_else_}
 use Rattle.numbers.proofs.Patterns.{Finite, shifted, scaled-by-k, scaled-finite, Is, pattern-is, scaled-is, value, back}
 use Rattle.numbers.specs.Floats.{pattern}
 use Rattle.numbers.specs.Depth.{DepthElement, Mantissa, depthBits, depthNumber}
@@ -118,7 +119,7 @@ unspecified-at-127 s l n = refl
 pub unspecified-only-at-127 : (s e l n : ℕ) → depthNumber s e l n ≡ Unspecified → e ≡ 127
 unspecified-only-at-127 s e l n = go (eqb e 127) refl
   where
-    go : (b : Bool) → eqb e 127 ≡ b → cond b Unspecified (Number (ofBits binary64 (depthBits s e (l + 1) n))) ≡ Unspecified → e ≡ 127
+    go : (b : Bool) → eqb e 127 ≡ b → (if b then Unspecified else Number (ofBits binary64 (depthBits s e (l + 1) n))) ≡ Unspecified → e ≡ 127
     go true t h = eqb-true e 127 t
     go false t h = absurd (let z : _≡_ {A = ℕ} 0 1 = cc in omega arith)
 
@@ -126,6 +127,6 @@ unspecified-only-at-127 s e l n = go (eqb e 127) refl
 pub never-absent : (s e l n : ℕ) → depthNumber s e l n ≡ Absent → ⊥
 never-absent s e l n = go (eqb e 127)
   where
-    go : (b : Bool) → cond b Unspecified (Number (ofBits binary64 (depthBits s e (l + 1) n))) ≡ Absent → ⊥
+    go : (b : Bool) → (if b then Unspecified else Number (ofBits binary64 (depthBits s e (l + 1) n))) ≡ Absent → ⊥
     go true h = let z : _≡_ {A = ℕ} 0 1 = cc in omega arith
     go false h = let z : _≡_ {A = ℕ} 0 1 = cc in omega arith

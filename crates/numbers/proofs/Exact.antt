@@ -4,13 +4,14 @@ use mathlib.Core.Path.{_≡_, sym, ap, _∙_, subst}
 use Prim.Native.Nat.{ℕ, suc, _+_, _-_, _*_, _/_, _^_, _≤_, _<_}
 use native.Mathlib.Nat.{le-antisymm, lt-of-le-of-lt, lt-of-lt-of-le, lt-of-not-le, lt-irrefl, mul-assoc, mul-right-comm, mul-le-mul-right, mul-div-cancel, eq-of-mul-eq-mul-right, add-assoc, add-mul, suc-mul, suc-add, add-sub-of-le}
 use native.Mathlib.Omega.{arith}
-use mathlib.Core.Bool.{Bool, cond}
+use mathlib.Core.Bool.{Bool}
 use lib.Pow.{pow-add, pow-pos, pow-mono, shl-lt}
 use lib.Ieee.{Float, nan, inf, fin, Format, prec, emax, low, up, down, size, round, hid, ones, top, ofBits, toBits}
 use lib.Ieee.Digits.{size-lt, size-le}
 use lib.Ieee.Fits.{two, down-pos, round-fits}
 use lib.Ieee.Bits.{ofBits-toBits}
 use lib.Ieee.Exact.{HasValue, round-exact}
+use Rattle.bits.specs.Choice.{if_then_else_}
 
 -- 2 ^ a ≤ n < 2 ^ (a + 1) has a + 1 digits
 pub size-at : (a n : ℕ) → 2 ^ a ≤ n → n < 2 ^ suc a → size n ≡ suc a
@@ -34,13 +35,13 @@ rescale (fin t m e) s a c num den p h v = (
 
 -- the bits of a finite value that is a of the format's smallest values
 toBits-is : (f : Format) (x : Float) (s : Bool) (a : ℕ) → HasValue x s a (2 ^ low f)
-    → toBits f x ≡ cond s (top f) 0 + (size a - prec f) * hid f + a / 2 ^ (size a - prec f)
+    → toBits f x ≡ (if s then top f else 0) + (size a - prec f) * hid f + a / 2 ^ (size a - prec f)
 unfolding toBits
 toBits-is f nan s a v = absurd v
 toBits-is f (inf t) s a v = absurd v
 toBits-is f (fin t m e) s a v =
-    ap (λ (n : ℕ). cond t (top f) 0 + (size n - prec f) * hid f + n / 2 ^ (size n - prec f)) (ap (λ (y : ℕ). y / down e) (v .1) ∙ mul-div-cancel a (down-pos e))
-    ∙ ap (λ (b : Bool). cond b (top f) 0 + (size a - prec f) * hid f + a / 2 ^ (size a - prec f)) (v .0)
+    ap (λ (n : ℕ). (if t then top f else 0) + (size n - prec f) * hid f + n / 2 ^ (size n - prec f)) (ap (λ (y : ℕ). y / down e) (v .1) ∙ mul-div-cancel a (down-pos e))
+    ∙ ap (λ (b : Bool). (if b then top f else 0) + (size a - prec f) * hid f + a / 2 ^ (size a - prec f)) (v .0)
 
 -- the sum of the three fields, with the leading digit added to the exponent's
 regroup : (c d h t q : ℕ) → q ≡ h + t → c + d * h + q ≡ c + (suc d * h + t)
@@ -65,11 +66,11 @@ module _ (f : Format) (s : Bool) (q k i d : ℕ) (wide : prec f ≡ suc (k + i))
       ∙ ap (λ (y : ℕ). y + (q - 2 ^ k) * 2 ^ i) (sym (pow-add 2 k i) ∙ ap (λ (y : ℕ). 2 ^ y) (omega arith))
 
   -- a finite value that is q * 2 ^ (i + d) of the smallest values, q having k + 1 digits: its field is d + 1
-  bits-at : (x : Float) → HasValue x s (q * 2 ^ (i + d)) (2 ^ low f) → toBits f x ≡ cond s (top f) 0 + (suc d * hid f + (q - 2 ^ k) * 2 ^ i)
+  bits-at : (x : Float) → HasValue x s (q * 2 ^ (i + d)) (2 ^ low f) → toBits f x ≡ (if s then top f else 0) + (suc d * hid f + (q - 2 ^ k) * 2 ^ i)
   bits-at x v =
       toBits-is f x s (q * 2 ^ (i + d)) v
-      ∙ ap (λ (z : ℕ). cond s (top f) 0 + z * hid f + q * 2 ^ (i + d) / 2 ^ z) dropped
-      ∙ regroup (cond s (top f) 0) d (hid f) ((q - 2 ^ k) * 2 ^ i) (q * 2 ^ (i + d) / 2 ^ d) (kept ∙ lead-off)
+      ∙ ap (λ (z : ℕ). (if s then top f else 0) + z * hid f + q * 2 ^ (i + d) / 2 ^ z) dropped
+      ∙ regroup (if s then top f else 0) d (hid f) ((q - 2 ^ k) * 2 ^ i) (q * 2 ^ (i + d) / 2 ^ d) (kept ∙ lead-off)
 
   fine : suc d < ones f → q * 2 ^ (i + d) < 2 ^ (low f + suc (emax f))
   fine h = lt-of-lt-of-le (shl-lt (suc k) (i + d) hi) (pow-mono (omega (arith, two f)))
@@ -79,7 +80,7 @@ module _ (f : Format) (s : Bool) (q k i d : ℕ) (wide : prec f ≡ suc (k + i))
 
   -- a fraction that is such a value is rounded to it, so it is what the pattern of those fields is read as
   pub exact : (num den : ℕ) → 0 < den → suc d < ones f → num * 2 ^ low f ≡ q * 2 ^ (i + d) * den
-      → HasValue (round f s num den) s num den × (round f s num den ≡ ofBits f (cond s (top f) 0 + (suc d * hid f + (q - 2 ^ k) * 2 ^ i)))
+      → HasValue (round f s num den) s num den × (round f s num den ≡ ofBits f ((if s then top f else 0) + (suc d * hid f + (q - 2 ^ k) * 2 ^ i)))
   exact num den p h e =
       let v = round-exact f s num den q (i + d) p narrow (fine h) e in (
         v,

@@ -4,7 +4,7 @@ use mathlib.Core.Path.{_≡_, refl, sym, ap, _∙_, subst}
 use Prim.Native.Nat.{ℕ, zero, suc, _+_, _-_, _*_, _%_, _^_, _≤_, _<_}
 use native.Mathlib.Nat.{add-mod-left, mod-eq-of-lt, lt-of-lt-of-le, mul-assoc, pow-succ'}
 use native.Mathlib.Omega.{arith}
-use mathlib.Core.Bool.{Bool, not, cond}
+use mathlib.Core.Bool.{Bool, not}
 use lib.Dec.{T, ltb, eqb}
 use borrow.Author.Tests.{le-ltb}
 use lib.Pow.{pow-add, pow-pos, pow-mono, shl-lt, shl-exact}
@@ -13,6 +13,7 @@ use lib.Ieee.{Float, binary64, size, round, ofBits, toBits, isNan, nanBits}
 use lib.Ieee.Bits.{nanBits-above, nanBits-is, toBits-ofBits}
 use lib.Ieee.Digits.{size-lt, size-le, size-reaches}
 use lib.Ieee.Exact.{HasValue}
+use Rattle.bits.specs.Choice.{if_then_else_}
 use Rattle.numbers.proofs.Exact.{size-at, exact}
 use Rattle.numbers.specs.Floats.{pattern, lead, scaledBits}
 
@@ -160,7 +161,7 @@ scaled-finite s x (suc n) hs hx hn =
 
 -- ---- which number a pattern is read as
 
-sign-place : (s : ℕ) → s < 2 → cond (eqb s 1) (2 ^ 63) 0 ≡ s * 2 ^ 63
+sign-place : (s : ℕ) → s < 2 → (if eqb s 1 then 2 ^ 63 else 0) ≡ s * 2 ^ 63
 sign-place zero h = refl
 sign-place (suc zero) h = refl
 sign-place (suc (suc s)) h = absurd (omega arith)

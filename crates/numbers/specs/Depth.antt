@@ -1,8 +1,8 @@
 -- Depth numbers, as "Depth numbers" says them. Definitions only.
 use Prim.Native.Nat.{ℕ, zero, suc, _+_, _-_, _*_, _≤_, _<_, _^_}
-use mathlib.Core.Bool.{cond}
 use lib.Dec.{eqb}
 use lib.Ieee.{binary64, ofBits}
+use Rattle.bits.specs.Choice.{if_then_else_}
 use Rattle.numbers.specs.Floats.{pattern, scaledBits}
 use Rattle.numbers.specs.declared.depth.DepthNumber.{DepthNumber}
 use Rattle.numbers.specs.declared.depth.DepthNumber.the-variants.{Unspecified, Number}
@@ -30,9 +30,9 @@ depthBits s (suc e) v n = pattern s (suc e + 992) (n * 2 ^ (52 - v))
 
 -- the bits of a coded element, and 0 where its exponent is 127
 abbrev pub codedBits : ℕ → ℕ → ℕ → ℕ → ℕ
-codedBits s e length-minus1 n = cond (eqb e 127) 0 (depthBits s e (length-minus1 + 1) n)
+codedBits s e length-minus1 n = if eqb e 127 then 0 else depthBits s e (length-minus1 + 1) n
 
 -- "Exponent 127 is unspecified." Every other element is a number. (That it is absent is said by its flag, not here.)
 abbrev pub depthNumber : ℕ → ℕ → ℕ → ℕ → DepthNumber
 depthNumber s e length-minus1 n =
-    cond (eqb e 127) Unspecified (Number (ofBits binary64 (depthBits s e (length-minus1 + 1) n)))
+    if eqb e 127 then Unspecified else Number (ofBits binary64 (depthBits s e (length-minus1 + 1) n))

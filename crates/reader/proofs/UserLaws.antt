@@ -3,13 +3,13 @@
 use Prim.Native.Nat.{ℕ, _-_, _≤_, _<_}
 use mathlib.Core.Path.{_≡_, refl, sym, ap, _∙_}
 use mathlib.Core.Logic.{_≢_, _↔_, _⊎_, inl, inr}
-use mathlib.Core.Bool.{cond}
 use mathlib.Core.List.{List, []}
 use native.Mathlib.Omega.{arith}
 use borrow.Author.Tests.{ne-eqb}
 use lib.Dec.{eqb}
 use lib.ListN.{length, take, drop}
 use lib.Seq.{length-take-le}
+use Rattle.bits.specs.Choice.{if_then_else_}
 use Rattle.bits.specs.Bits.{part, unsignedOf}
 use Rattle.bits.specs.Identifier.{bytesOf}
 use Rattle.bits.specs.Refusals.{bySize}
@@ -44,10 +44,10 @@ same : {a b : ℕ} → From a ≡ From b → a ≡ b
 same e = cc
 
 head-1 : (code extension : ℕ) → (code ≡ 255 → ⊥) → headBytes (coded code extension) ≡ 1
-head-1 code extension h = ap (λ b. cond b 2 1) (ne-eqb code 255 h)
+head-1 code extension h = ap (λ b. if b then 2 else 1) (ne-eqb code 255 h)
 
 head-2 : (code extension : ℕ) → code ≡ 255 → headBytes (coded code extension) ≡ 2
-head-2 code extension h = ap (λ c. cond (eqb c 255) 2 1) h
+head-2 code extension h = ap (λ c. if eqb c 255 then 2 else 1) h
 
 -- the start in a payload s of kind k
 abbrev starts : Kind → List ℕ → Rest

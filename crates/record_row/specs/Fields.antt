@@ -1,8 +1,9 @@
 -- The fields of a record as numbers, one layout a kind.
 use Prim.Native.Nat.{ℕ, _+_, _^_}
-use mathlib.Core.Bool.{Bool, cond, _&&_}
+use mathlib.Core.Bool.{Bool, _&&_}
 use mathlib.Core.List.{List, [], _∷_, _++_}
 use lib.Dec.{ltb}
+use Rattle.bits.specs.Choice.{if_then_else_}
 use Rattle.bits.specs.Signed.{twosOf}
 use Rattle.kind_frame_packing.specs.declared.FramePacking.{FramePacking}
 use Rattle.kind_orientation.specs.declared.Orientation.{Orientation}
@@ -135,7 +136,7 @@ coded sign exponent length-minus1 mantissa =
 -- the 64 bits of the number that the parts stand for, and 0 where they stand for none
 abbrev pub depthBitsOf : ℕ → ℕ → ℕ → ℕ → ℕ
 depthBitsOf sign exponent length-minus1 mantissa =
-    cond (coded sign exponent length-minus1 mantissa) (codedBits sign exponent length-minus1 mantissa) 0
+    if coded sign exponent length-minus1 mantissa then codedBits sign exponent length-minus1 mantissa else 0
 
 abbrev pub valueFields : DepthValue → List ℕ
 valueFields a =

@@ -1,9 +1,9 @@
 -- The row of numbers that stands for an answer: the extension count, then the record's fields; and what a call leaves of a lent row.
 use Prim.Native.Nat.{ℕ}
-use mathlib.Core.Bool.{cond}
 use mathlib.Core.List.{List, _∷_}
 use lib.Dec.{leb}
 use lib.ListN.{length}
+use Rattle.bits.specs.Choice.{if_then_else_}
 use Rattle.bits.specs.Refusals as refusals
 use Rattle.lent.specs.Lent.{Left, left, over}
 use Rattle.answers.specs.Answer.{answerNumber}
@@ -20,7 +20,7 @@ fieldsOf a = a .extension ∷ recordFields (a .beside) (a .message)
 -- the fields over the front of the row; 10, and nothing written, where they do not fit
 unfoldable pub handedOver : ℕ → List ℕ → List ℕ → Left ℕ
 handedOver number fields row =
-    cond (leb (length fields) (length row)) (left number (over fields row)) (left (refusals.refusalNumber refusals.byRows) row)
+    if leb (length fields) (length row) then left number (over fields row) else left (refusals.refusalNumber refusals.byRows) row
 
 -- a refusal writes nothing
 abbrev pub wroteBy : Outcome → Answer → List ℕ → Left ℕ

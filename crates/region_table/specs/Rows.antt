@@ -2,10 +2,10 @@
 use Prim.Native.Nat.{ℕ, _+_, _*_, _/_, _≤_, _<_}
 use mathlib.Core.Path.{_≡_}
 use mathlib.Core.Logic.{_⊎_}
-use mathlib.Core.Bool.{cond}
 use mathlib.Core.List.{List, [], _∷_, _++_}
 use lib.Dec.{leb}
 use lib.ListN.{take}
+use Rattle.bits.specs.Choice.{if_then_else_}
 use Rattle.bits.specs.Refusals.{refusalNumber, byTable, byRows}
 use Rattle.bits.specs.declared.refusal.Refusal.{Refusal}
 use Rattle.lent.specs.Lent.{Left, left, over}
@@ -102,14 +102,14 @@ refuses why = record { answer = Refused why; rows = [] }
 
 -- n rows where 9 × n numbers are lent, else refusal 10
 abbrev pub fitted : ℕ → List ℕ → ℕ → Table
-fitted n rows room = cond (leb (9 * n) room) (record { answer = Rows n; rows = rows }) (refuses byRows)
+fitted n rows room = if leb (9 * n) room then record { answer = Rows n; rows = rows } else refuses byRows
 
 -- refusal 9 where the record has no region, or more than it can hold; `room` is how many numbers are lent
 unfoldable pub tableOf : RegionWise → Split → ℕ → Table
 tableOf p split room =
-    cond (leb 1 (p .«rwp_num_packed_regions»))
-    (cond (leb (p .«rwp_num_packed_regions») most) (fitted (rowCount p split) (rowsOf p split) room) (refuses byTable))
-    (refuses byTable)
+    if leb 1 (p .«rwp_num_packed_regions»)
+    then (if leb (p .«rwp_num_packed_regions») most then fitted (rowCount p split) (rowsOf p split) room else refuses byTable)
+    else refuses byTable
 
 -- the rows stand at the front of what was lent
 abbrev pub wrote : Table → List ℕ → Left Tabled

@@ -2,11 +2,12 @@
 -- Assumes nothing.
 use Prim.Native.Nat.{ℕ, suc, _≤_, _<_}
 use mathlib.Core.Path.{_≡_, refl}
-use mathlib.Core.Bool.{Bool, true, false, cond}
+use mathlib.Core.Bool.{Bool, true, false}
 use mathlib.Core.List.{List}
 use native.Mathlib.Omega.{arith}
 use borrow.Author.Tests.{lt-ltb, le-ltb, ne-eqb}
 use lib.Dec.{eqb, ltb}
+use Rattle.bits.specs.Choice.{if_then_else_}
 use Rattle.script.specs.Words.{alike, lastOf}
 use Rattle.script.specs.Names.{placeIn, names}
 use Rattle.script.specs.Names.{open-name, close-name, sequence-name, picture-name, table-name, feed-name, read-name, explain-name, help-name}
@@ -19,27 +20,27 @@ use Rattle.script.specs.declared.call.Call.the-variants.{Open, Close, Se
 -- the call at a place
 pub callAt : ℕ → List ℕ → List ℕ → Left Call
 callAt place s lent =
-    cond (ltb place 4) (left (numbered (slotCall place) (lastOf s)) lent)
-    (cond (eqb place 4) (left (tableOf s) lent)
-    (cond (eqb place 5) (feedOf s lent)
-    (cond (ltb place 8) (withPayload (readCall place) (payloadOf s lent))
-    (cond (eqb place 8) (left (helpOf s) lent)
-    (left Nothing lent)))))
+    if ltb place 4 then left (numbered (slotCall place) (lastOf s)) lent
+    else if eqb place 4 then left (tableOf s) lent
+    else if eqb place 5 then feedOf s lent
+    else if ltb place 8 then withPayload (readCall place) (payloadOf s lent)
+    else if eqb place 8 then left (helpOf s) lent
+    else left Nothing lent
 
 -- the first name that the word is, by tests of each
 chosen : (s lent : List ℕ) (b0 b1 b2 b3 b4 b5 b6 b7 b8 : Bool)
-    → callAt (cond b0 0 (suc (cond b1 0 (suc (cond b2 0 (suc (cond b3 0 (suc (cond b4 0
-    (suc (cond b5 0 (suc (cond b6 0 (suc (cond b7 0 (suc (cond b8 0 1))))))))))))))))) s lent
-    ≡ cond b0 (left (numbered Open (lastOf s)) lent)
-    (cond b1 (left (numbered Close (lastOf s)) lent)
-    (cond b2 (left (numbered Sequence (lastOf s)) lent)
-    (cond b3 (left (numbered Picture (lastOf s)) lent)
-    (cond b4 (left (tableOf s) lent)
-    (cond b5 (feedOf s lent)
-    (cond b6 (withPayload Read (payloadOf s lent))
-    (cond b7 (withPayload Explain (payloadOf s lent))
-    (cond b8 (left (helpOf s) lent)
-    (left Nothing lent)))))))))
+    → callAt (if b0 then 0 else suc (if b1 then 0 else suc (if b2 then 0 else suc (if b3 then 0 else suc (if b4 then 0
+    else suc (if b5 then 0 else suc (if b6 then 0 else suc (if b7 then 0 else suc (if b8 then 0 else 1))))))))) s lent
+    ≡ (if b0 then left (numbered Open (lastOf s)) lent
+    else if b1 then left (numbered Close (lastOf s)) lent
+    else if b2 then left (numbered Sequence (lastOf s)) lent
+    else if b3 then left (numbered Picture (lastOf s)) lent
+    else if b4 then left (tableOf s) lent
+    else if b5 then feedOf s lent
+    else if b6 then withPayload Read (payloadOf s lent)
+    else if b7 then withPayload Explain (payloadOf s lent)
+    else if b8 then left (helpOf s) lent
+    else left Nothing lent)
 unfolding callAt slotCall readCall
 chosen s lent true b1 b2 b3 b4 b5 b6 b7 b8 = refl
 chosen s lent false true b2 b3 b4 b5 b6 b7 b8 = refl

@@ -2,17 +2,18 @@
 -- Assumes nothing.
 use Prim.Native.Nat.{ℕ, suc, _+_, _<_, _≤_}
 use mathlib.Core.Path.{_≡_, refl, sym, ap, _∙_}
-use mathlib.Core.Bool.{Bool, true, false, cond}
+use mathlib.Core.Bool.{Bool, true, false}
 use mathlib.Core.List.{List}
 use native.Mathlib.Numerals.{add-one}
 use lib.Dec.{eqb, ltb}
 use lib.ListN.{length, drop, getD, set, drop-of-length-le}
 use lib.Seq.{drop-cons}
+use Rattle.bits.specs.Choice.{if_then_else_}
 use Rattle.script.specs.Input.{plainByte, Step, step, ended, longer, withByte, taken, lineOn}
 use Rattle.script.specs.declared.input.Input.{Input}
 
 either : (newline room : Bool) (i : Input) (line more : List ℕ) →
-    cond newline (step (ended i) line) (cond room (step (longer i) more) (step i line)) .input .at ≡ i .at
+    (if newline then step (ended i) line else if room then step (longer i) more else step i line) .input .at ≡ i .at
 either true room i line more = refl
 either false true i line more = refl
 either false false i line more = refl

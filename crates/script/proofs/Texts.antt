@@ -2,13 +2,14 @@
 -- Assumes nothing.
 use Prim.Native.Nat.{ℕ, _+_, _-_, _≤_, _<_}
 use mathlib.Core.Path.{_≡_, refl, sym, ap, _∙_}
-use mathlib.Core.Bool.{Bool, true, false, cond}
+use mathlib.Core.Bool.{Bool, true, false}
 use mathlib.Core.List.{List, [], _∷_}
 use native.Mathlib.Omega.{arith}
 use borrow.Author.Tests.{eq-eqb, eqb-true}
 use lib.Dec.{eqb}
 use lib.ListN.{length, length-drop, length-take, take, drop}
 use lib.Seq.{take-all, take-length, drop-drop}
+use Rattle.bits.specs.Choice.{if_then_else_}
 use Rattle.bytes.specs.Bytes.{indexOf, slice}
 use Rattle.words.specs.Place.{run, led}
 use Rattle.script.specs.Words.{alike, firstOf, restOf}
@@ -44,7 +45,7 @@ unfolding alike
 alike-refl [] = refl
 alike-refl (x ∷ a) = rw (eq-eqb x x refl) (alike-refl a)
 
-heads : (x y : ℕ) (a b : List ℕ) (t : Bool) → eqb x y ≡ t → (alike a b ≡ true → a ≡ b) → cond t (alike a b) false ≡ true → x ∷ a ≡ y ∷ b
+heads : (x y : ℕ) (a b : List ℕ) (t : Bool) → eqb x y ≡ t → (alike a b ≡ true → a ≡ b) → (if t then alike a b else false) ≡ true → x ∷ a ≡ y ∷ b
 heads x y a b true p same e =
     let h = eqb-true x y p in
     let l = same e in

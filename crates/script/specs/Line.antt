@@ -1,9 +1,9 @@
 -- The call that a line spells: its first word names it, and the help text says what follows.
 use Prim.Native.Nat.{ℕ}
-use mathlib.Core.Bool.{cond}
 use mathlib.Core.List.{List, [], _∷_}
 use lib.Dec.{eqb, ltb}
 use lib.ListN.{take, drop}
+use Rattle.bits.specs.Choice.{if_then_else_}
 use Rattle.lent.specs.Lent.{Left, left}
 use Rattle.words.specs.Place.{contentOf}
 use Rattle.words.specs.Number.{numberOf}
@@ -51,16 +51,16 @@ helpOf (c ∷ s) = Nothing
 -- what the call of this name comes to, with what follows the name
 unfoldable pub named : List ℕ → List ℕ → List ℕ → Left Call
 named word s lent =
-    cond (alike open-name word) (left (numbered Open (lastOf s)) lent)
-    (cond (alike close-name word) (left (numbered Close (lastOf s)) lent)
-    (cond (alike sequence-name word) (left (numbered Sequence (lastOf s)) lent)
-    (cond (alike picture-name word) (left (numbered Picture (lastOf s)) lent)
-    (cond (alike table-name word) (left (tableOf s) lent)
-    (cond (alike feed-name word) (feedOf s lent)
-    (cond (alike read-name word) (withPayload Read (payloadOf s lent))
-    (cond (alike explain-name word) (withPayload Explain (payloadOf s lent))
-    (cond (alike help-name word) (left (helpOf s) lent)
-    (left Nothing lent)))))))))
+    if alike open-name word then left (numbered Open (lastOf s)) lent
+    else if alike close-name word then left (numbered Close (lastOf s)) lent
+    else if alike sequence-name word then left (numbered Sequence (lastOf s)) lent
+    else if alike picture-name word then left (numbered Picture (lastOf s)) lent
+    else if alike table-name word then left (tableOf s) lent
+    else if alike feed-name word then feedOf s lent
+    else if alike read-name word then withPayload Read (payloadOf s lent)
+    else if alike explain-name word then withPayload Explain (payloadOf s lent)
+    else if alike help-name word then left (helpOf s) lent
+    else left Nothing lent
 
 -- the call of a line without its comment and the spaces around it
 unfoldable pub spelledOf : List ℕ → List ℕ → Left Call
@@ -72,7 +72,7 @@ mark = 239 ∷ 187 ∷ 191 ∷ []
 
 -- the first line may start with one, which is no part of it
 unfoldable pub unmarkedOf : ℕ → List ℕ → List ℕ
-unmarkedOf number s = cond (eqb number 1) (cond (alike (take 3 s) mark) (drop 3 s) s) s
+unmarkedOf number s = if eqb number 1 then (if alike (take 3 s) mark then drop 3 s else s) else s
 
 -- what a line of n characters says
 unfoldable pub saidOf : ℕ → ℕ → List ℕ → List ℕ
@@ -80,12 +80,12 @@ saidOf number n line = contentOf (unmarkedOf number (take n line))
 
 -- the call that it spells; a line of 32768 characters or more is too long
 unfoldable pub callOf : ℕ → ℕ → List ℕ → List ℕ → Left Call
-callOf number n line lent = cond (ltb n 32768) (spelledOf (saidOf number n line) lent) (left Nothing lent)
+callOf number n line lent = if ltb n 32768 then spelledOf (saidOf number n line) lent else left Nothing lent
 
 -- ---- the calls by their places in the list of names
 
 unfoldable pub slotCall : ℕ → ℕ → Call
-slotCall place n = cond (eqb place 0) (Open n) (cond (eqb place 1) (Close n) (cond (eqb place 2) (Sequence n) (Picture n)))
+slotCall place n = if eqb place 0 then Open n else if eqb place 1 then Close n else if eqb place 2 then Sequence n else Picture n
 
 unfoldable pub readCall : ℕ → Payload → Call
-readCall place p = cond (eqb place 6) (Read p) (Explain p)
+readCall place p = if eqb place 6 then Read p else Explain p

@@ -1,8 +1,8 @@
 -- The calls by name.
 use Prim.Native.Nat.{ℕ, suc}
-use mathlib.Core.Bool.{cond}
 use mathlib.Core.List.{List, [], _∷_}
 use lib.Dec.{eqb}
+use Rattle.bits.specs.Choice.{if_then_else_}
 use Rattle.script.specs.Words.{alike}
 
 -- one character more at the front of a list of words: it is of the first, where there is one
@@ -13,12 +13,12 @@ longer c (w ∷ more) = (c ∷ w) ∷ more
 -- the words of a list, of which each has a bar after it
 unfoldable pub wordsOf : List ℕ → List (List ℕ)
 wordsOf [] = []
-wordsOf (c ∷ rest) = cond (eqb c 124) ([] ∷ wordsOf rest) (longer c (wordsOf rest))
+wordsOf (c ∷ rest) = if eqb c 124 then [] ∷ wordsOf rest else longer c (wordsOf rest)
 
 -- the place of a word among them; their count where it is none of them
 unfoldable pub placeIn : List (List ℕ) → List ℕ → ℕ
 placeIn [] w = 0
-placeIn (x ∷ more) w = cond (alike x w) 0 (suc (placeIn more w))
+placeIn (x ∷ more) w = if alike x w then 0 else suc (placeIn more w)
 
 -- open
 abbrev pub open-name : List ℕ

@@ -1,8 +1,8 @@
 -- The payload that a text spells: KIND [size=N] BYTES.
 use Prim.Native.Nat.{ℕ}
-use mathlib.Core.Bool.{cond}
 use mathlib.Core.List.{List, [], _∷_}
 use lib.ListN.{take, drop}
+use Rattle.bits.specs.Choice.{if_then_else_}
 use Rattle.lent.specs.Lent.{Left, left}
 use Rattle.words.specs.Number.{numberOf}
 use Rattle.words.specs.Hex.{spelling, into}
@@ -44,7 +44,7 @@ size-is = 115 ∷ 105 ∷ 122 ∷ 101 ∷ 61 ∷ []
 
 -- [size=N] BYTES
 unfoldable pub bytesOf : List ℕ → List ℕ → ℕ → Left Given
-bytesOf s lent kind = cond (alike (take 5 s) size-is) (statedOf kind (drop 5 s) lent) (plainOf kind s lent)
+bytesOf s lent kind = if alike (take 5 s) size-is then statedOf kind (drop 5 s) lent else plainOf kind s lent
 
 unfoldable pub payloadOf : List ℕ → List ℕ → Left Given
 payloadOf s lent = valued (numberOf (firstOf s)) (bytesOf (restOf s) lent) (left Wrong lent)

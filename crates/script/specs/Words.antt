@@ -1,9 +1,10 @@
 -- The words of a text, which are apart by spaces, and the numbers that they spell.
 use Prim.Native.Nat.{ℕ}
-use mathlib.Core.Bool.{Bool, true, false, cond}
+use mathlib.Core.Bool.{Bool, true, false}
 use mathlib.Core.List.{List, [], _∷_}
 use lib.Dec.{eqb}
 use lib.ListN.{take, drop}
+use Rattle.bits.specs.Choice.{if_then_else_}
 use Rattle.bytes.specs.Bytes.{indexOf}
 use Rattle.words.specs.Place.{led}
 use Rattle.words.specs.Number.{numberOf}
@@ -15,7 +16,7 @@ unfoldable pub alike : List ℕ → List ℕ → Bool
 alike [] [] = true
 alike [] (y ∷ b) = false
 alike (x ∷ a) [] = false
-alike (x ∷ a) (y ∷ b) = cond (eqb x y) (alike a b) false
+alike (x ∷ a) (y ∷ b) = if eqb x y then alike a b else false
 
 -- what stands before the first space
 unfoldable pub firstOf : List ℕ → List ℕ

@@ -2,7 +2,7 @@
 -- Assumes nothing.
 use Prim.Native.Nat.{ℕ, suc, _+_, _<_, _≤_}
 use mathlib.Core.Path.{_≡_, refl, sym, ap, _∙_}
-use mathlib.Core.Bool.{true, false, cond}
+use mathlib.Core.Bool.{true, false}
 use mathlib.Core.List.{List, [], _∷_}
 use native.Mathlib.Nat.{add-zero, zero-add}
 use native.Mathlib.Numerals.{add-one}
@@ -11,6 +11,7 @@ use borrow.Author.Tests.{eq-eqb, ne-eqb, le-leb, lt-leb}
 use lib.Dec.{leb}
 use lib.ListN.{length, length-set, drop, getD, set, drop-of-length-le}
 use lib.Seq.{drop-cons, sets, set-out}
+use Rattle.bits.specs.Choice.{if_then_else_}
 use Rattle.words.specs.declared.hex.Hex.{Hex}
 use Rattle.words.specs.declared.hex.Hex.the-variants.{Bytes, Long}
 use Rattle.words.specs.declared.hex.Paired.{Paired}
@@ -20,7 +21,7 @@ use Rattle.words.specs.Hex.{loneOf, pairOf, marked, Spelling, ends, onwa
 
 -- behind n bytes that are written already
 intoAt : ℕ → List ℕ → Spelling → Left Hex
-intoAt n lent t = left (cond (leb (n + length (t .bytes)) (length lent)) (t .ending) Long) (sets lent n (t .bytes))
+intoAt n lent t = left (if leb (n + length (t .bytes)) (length lent) then t .ending else Long) (sets lent n (t .bytes))
 
 -- what is left to do at place i
 pub still : List ℕ → ℕ → ℕ → List ℕ → Left Hex

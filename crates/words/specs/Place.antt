@@ -1,15 +1,15 @@
 -- Places in a text, and what a line says.
 use Prim.Native.Nat.{ℕ, suc, _-_}
-use mathlib.Core.Bool.{cond}
 use mathlib.Core.List.{List, [], _∷_, reverse}
 use lib.Dec.{eqb}
 use lib.ListN.{length, take, drop}
+use Rattle.bits.specs.Choice.{if_then_else_}
 use Rattle.bytes.specs.Bytes.{indexOf}
 
 -- how often b stands at the front, before anything else
 unfoldable pub run : ℕ → List ℕ → ℕ
 run b [] = 0
-run b (x ∷ rest) = cond (eqb x b) (suc (run b rest)) 0
+run b (x ∷ rest) = if eqb x b then suc (run b rest) else 0
 
 -- the length without the spaces at the end
 abbrev pub trimmedOf : List ℕ → ℕ

@@ -2,19 +2,17 @@
 -- cancel, and `met` so where the ways with grid positions and without meet.
 -- Assumes nothing.
 use Prim.Native.Nat.{ℕ}
-use mathlib.Core.Bool.{Bool, true, false, not, _&&_}
+use mathlib.Core.Bool.{Bool, false, not, _&&_}
 use mathlib.Core.List.{List}
 use mathlib.Core.Logic.{⊎-elim}
-use mathlib.Core.Path.{_≡_, refl, ap, _∙_}
+use mathlib.Core.Path.{_≡_, refl, sym, ap, _∙_}
 use lib.Dec.{eqb}
 use borrow.Author.Needs.{needs}
 use borrow.Author.Tests.{eq-eqb, ne-eqb}
 use Rattle.bits.specs.Answers.{readOut, byteOut}
-use Rattle.bits.specs.Out.{Out, taken}
-use Rattle.format.specs.Format.{Format, _>>=_, zeros, allZero}
+use Rattle.bits.specs.Out.{taken}
 use Rattle.format.specs.Reading.{runAt}
-use Rattle.format.specs.Syntax.{when}
-use Rattle.format.proofs.Steps.{step-done, step-code, step-asks, step-there, step-absent, At, start, next, last, stop}
+use Rattle.format.proofs.Steps.{step-done, step-code, step-there, step-absent, step-there-within, step-absent-within, At, start, next, last, meet, stop}
 use Rattle.kind_frame_packing.specs.FramePacking.{table, framePacking}
 use Rattle.kind_frame_packing.specs.declared.FramePacking.{FramePacking}
 use Rattle.kind_frame_packing.proofs.read.Statement.{statement}
@@ -23,23 +21,6 @@ use Rattle.kind_frame_packing.proofs.read.Tie as tie
 opened : (s : List ℕ) (p : ℕ) → runAt framePacking s p ≡ runAt table s p
 unfolding framePacking
 opened s p = refl
-
--- a part that may be absent, in a part that more of the table follows
-module _ {R A B C : Type 0} (t : Bool) (f : Format R A) (g : A → Format R B) (k : B → Format R C) (s : List ℕ) (p : ℕ) where
-  there-within : t ≡ true → runAt (when t f >>= g >>= k) s p ≡ runAt (f >>= g >>= k) s p
-  there-within e = rw e
-
-  absent-within : t ≡ false → runAt (when t f >>= g >>= k) s p ≡ runAt (g (zeros f) >>= k) s p
-  absent-within e = rw e (step-asks (allZero f) (g (zeros f) >>= k) s p)
-
-  -- where the ways with it and without it meet, with y for it: what follows it is left
-  abbrev meet : {D : Type 0} {o : Out D} {v : D} {q : ℕ} (a : At C o) → o ≡ taken v q → a .k v q ≡ runAt (when t f >>= g >>= k) s p
-      → (y : A) (r : ℕ) → a .x ≡ runAt (g y >>= k) s r → At C (taken y r)
-  meet a e h y r l = record { x = a .x; k = λ y r. runAt (g y >>= k) s r; is = l }
-
--- a read gave a value: the whole is what is left of it
-left : {D C : Type 0} {o : Out D} {v : D} {q : ℕ} (a : At C o) → o ≡ taken v q → a .x ≡ a .k v q
-left a e = a .is ∙ rw e
 
 -- the tests for the grid positions
 module _ (q : ℕ) (b : Bool) where
@@ -94,7 +75,7 @@ at11 c = next (at10 (c .before .before .before .before)) _ (ap byteOut (c .befor
 abbrev at12 : (c : tie.After-byte12) → At FramePacking (byteOut (c .byte12 .result))
 at12 c =
     next (at11 (c .before .before .before .before .before .before .before)) _ (ap byteOut (c .before .before .before .before .before .r11 .given .1)) (c .byte12 .ensures)
-    (there-within _ _ _ _ _ _ (by-type _ _ (c .before .before .if2 .taken) (c .before .if3 .taken)) ∙ step-code _ _ _ _ _)
+    (step-there-within _ _ _ _ _ (by-type _ _ (c .before .before .if2 .taken) (c .before .if3 .taken)) ∙ step-code _ _ _ _ _)
 
 abbrev at13 : (c : tie.After-byte13) → At FramePacking (byteOut (c .byte13 .result))
 at13 c = next (at12 (c .before .before .before .before)) _ (ap byteOut (c .before .before .r12 .given .1)) (c .byte13 .ensures) (step-code _ _ _ _ _)
@@ -134,10 +115,10 @@ met c =
     let p13 : tie.After-byte13 = record { before = record { before = record { before = record { before = p12; match13 = w .3 }; r12 = w .4 }; known-told13 = w .5 }; byte13 = w .6 } in
     let p14 : tie.After-byte14 = record { before = record { before = record { before = record { before = p13; match14 = w .7 }; r13 = w .8 }; known-told14 = w .9 }; byte14 = w .10 } in
     let p15 : tie.After-byte15 = record { before = record { before = record { before = record { before = p14; match15 = w .11 }; r14 = w .12 }; known-told15 = w .13 }; byte15 = w .14 } in
-    rw (w .18, w .19) (left {o = byteOut (w .14 .result)} (at15 p15) (ap byteOut (w .16 .given .1))))
+    rw (w .18, w .19) (sym (last {o = byteOut (w .14 .result)} (at15 p15) (ap byteOut (w .16 .given .1)) refl)))
     (λ w.
     let no = ⊎-elim (λ v. by-type _ _ (v .0 .taken) (v .1 .left)) (λ v. by-quincunx _ _ (v .left)) (w .0 .came) in
-    rw (w .1 ∙ k .zero2 .ensures, w .2) (left a e ∙ absent-within (test k) _ _ _ _ _ no))
+    rw (w .1 ∙ k .zero2 .ensures, w .2) (sym (last a e refl) ∙ step-absent-within _ _ _ _ _ no))
     (c .if2 .came))
 
 abbrev at16 : (c : tie.After-byte16) → At FramePacking (byteOut (c .byte16 .result))

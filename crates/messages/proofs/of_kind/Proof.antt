@@ -1,4 +1,4 @@
--- `messages::of_kind` meets its contract, kind by kind.
+-- `messages::of_kind` meets its contract.
 -- Assumes nothing.
 use borrow.Author.Needs.{needs}
 use Rattle.messages.proofs.of_kind.Statement.{statement}

@@ -1,4 +1,4 @@
--- `messages::outcome_of` meets its contract, kind by kind.
+-- `messages::outcome_of` meets its contract.
 -- Assumes nothing.
 use mathlib.Core.Path.{ap}
 use borrow.Author.Needs.{needs}

@@ -2,18 +2,19 @@
 -- Assumes nothing.
 use Prim.Native.Nat.{ℕ, _+_, _-_, _<_, _≤_}
 use mathlib.Core.Path.{_≡_, refl, ap, _∙_}
-use mathlib.Core.Bool.{Bool, true, false, not, cond}
+use mathlib.Core.Bool.{Bool, true, false, not}
 use mathlib.Core.List.{List, [], _∷_}
 use native.Mathlib.Omega.{arith}
 use borrow.Author.Needs.{needs}
 use lib.Dec.{eqb}
 use lib.ListN.{length, length-drop, drop, getD}
+use Rattle.bits.specs.Choice.{if_then_else_}
 use Rattle.words.specs.Hex.{zeroX, marked}
 use Rattle.words.proofs.Spellings.{cons-at}
 use Rattle.words.proofs.hex.is_marked.Statement.{statement}
 use Rattle.words.proofs.hex.is_marked.Tie as tie
 
-neither : (t : Bool) → false ≡ cond t false false
+neither : (t : Bool) → false ≡ (if t then false else false)
 neither true = refl
 neither false = refl
 
