@@ -39,7 +39,7 @@ enum {
 enum {
     BRUSKELDE_TAKEN = 0,            /* of a read or a feed */
     BRUSKELDE_DONE = 0,             /* of any other call */
-    BRUSKELDE_KIND = 1,             /* the kind is none of the nine above */
+    BRUSKELDE_KIND = 1,             /* the kind is none of those above */
     BRUSKELDE_SIZE = 2,             /* the size exceeds 8192 or the lent length */
     BRUSKELDE_SHORT = 3,            /* the next element needs a bit past the payload's end */
     BRUSKELDE_ZEROS = 4,            /* an exp-Golomb number has a 32nd leading zero */

@@ -135,7 +135,7 @@ module _ (s : Slots) (n kind size : ℕ) (bytes : List ℕ) where
       go true o = keeps (untaken-keeps _ _ (λ t. d (ap (λ (a : Answer). a .outcome) (rw o at fed-answer) ∙ t)))
       go false o = fed-slots ∙ replaced-slots s n left ∙ rw o
 
-  -- nor does any payload of kind 4, 5, 165 or 177, whatever it is answered
+  -- nor does any payload of a kind that is not held, whatever it is answered
   pub fed-unheld : (k : Kind) → kind ≡ number k → Unheld k → fedTo s n kind size bytes .slots ≡ s
   fed-unheld k e u = go (call kind size bytes)
     where
