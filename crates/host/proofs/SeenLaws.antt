@@ -13,8 +13,6 @@ use Rattle.answers.specs.Answer.{answerNumber}
 use Rattle.answers.specs.declared.Answer.{Answer}
 use Rattle.answers.specs.declared.Outcome.{Outcome}
 use Rattle.answers.specs.declared.Outcome.the-variants.{Taken, SetAside, Refused}
-use Rattle.answers.specs.declared.kind.Message.{Message}
-use Rattle.answers.specs.declared.kind.Message.the-variants as message
 use Rattle.reader.specs.Reader.{answerTo}
 use Rattle.reader.proofs.Local.{local}
 use Rattle.slots.specs.Slots.{Eight}
