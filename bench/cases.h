@@ -17,27 +17,24 @@ extern const size_t payload_case_count;
 
 enum { FILLED_SLOT = 3, CLOSED_SLOT = 4, NO_SLOT = 8 };
 
-/* A call on a slot, and its number. FILLED_SLOT holds all five kinds, the regions among them as given; FEED feeds `kind` and `payload`. */
+/* A message that FILLED_SLOT holds; the last of a list has kind 0. */
+struct held_message {
+    uint64_t kind;
+    const char *payload;
+};
+
+/* A call on a slot, its number, and what FILLED_SLOT holds before it; FEED feeds `kind` and `payload`. */
 struct slot_case {
     enum call call;
     const char *name;
     uint32_t number;
     uint64_t slot;
-    const char *regions;
+    const struct held_message *held;
     uint64_t kind;
     const char *payload;
 };
 
 extern const struct slot_case slot_cases[];
 extern const size_t slot_case_count;
-
-/* The other four that FILLED_SLOT holds. */
-struct held_message {
-    uint64_t kind;
-    const char *payload;
-};
-
-extern const struct held_message held_messages[];
-extern const size_t held_message_count;
 
 #endif

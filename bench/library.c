@@ -1,4 +1,4 @@
-/* The library's side. A slot call is made as a player makes it: it lends its slots by value and keeps those that it gets back. */
+/* The library's side. A slot call is made as a player makes it, on slots of its own. */
 #include "bruskelde.h"
 #include "sides.h"
 
@@ -6,67 +6,54 @@ static struct bruskelde_slots kept;
 
 static void *player_make(void)
 {
+    bruskelde_start(&kept);
     return &kept;
 }
 
 static uint32_t player_start(void *slots)
 {
-    struct bruskelde_slots *own = slots;
-    *own = bruskelde_start();
-    return BRUSKELDE_TAKEN;
+    bruskelde_start(slots);
+    return BRUSKELDE_DONE;
 }
 
 static uint32_t player_open(void *slots, uint64_t slot)
 {
-    struct bruskelde_slots *own = slots;
-    struct bruskelde_called called = bruskelde_open(*own, slot);
-    *own = called.slots;
-    return called.number;
+    return bruskelde_open(slots, slot);
 }
 
 static uint32_t player_close(void *slots, uint64_t slot)
 {
-    struct bruskelde_slots *own = slots;
-    struct bruskelde_called called = bruskelde_close(*own, slot);
-    *own = called.slots;
-    return called.number;
+    return bruskelde_close(slots, slot);
 }
 
 static uint32_t player_sequence(void *slots, uint64_t slot)
 {
-    struct bruskelde_slots *own = slots;
-    struct bruskelde_called called = bruskelde_sequence(*own, slot);
-    *own = called.slots;
-    return called.number;
+    return bruskelde_sequence(slots, slot);
 }
 
 static uint32_t player_feed(void *slots, uint64_t slot, uint64_t kind, uint64_t size, const uint8_t *bytes, size_t length,
                             uint64_t *extension)
 {
-    struct bruskelde_slots *own = slots;
-    struct bruskelde_fed fed = bruskelde_feed(*own, slot, kind, size, bytes, length);
-    *own = fed.slots;
+    struct bruskelde_fed fed = bruskelde_feed(slots, slot, kind, size, bytes, length);
     *extension = fed.extension;
     return fed.number;
 }
 
 static uint32_t player_picture(void *slots, uint64_t slot, uint64_t held[5])
 {
-    struct bruskelde_slots *own = slots;
-    struct bruskelde_pictured pictured = bruskelde_picture(*own, slot);
-    *own = pictured.slots;
-    held[0] = pictured.held.frame_packing.on;
-    held[1] = pictured.held.orientation.on;
-    held[2] = pictured.held.equirectangular.on;
-    held[3] = pictured.held.rotation.on;
-    held[4] = pictured.held.regions.on;
-    return pictured.number;
+    struct bruskelde_held shown;
+    uint32_t number = bruskelde_picture(slots, slot, &shown);
+    held[0] = shown.frame_packing.on;
+    held[1] = shown.orientation.on;
+    held[2] = shown.equirectangular.on;
+    held[3] = shown.rotation.on;
+    held[4] = shown.regions.on;
+    return number;
 }
 
 static uint32_t player_table(void *slots, uint64_t slot, uint64_t *rows, size_t length, uint64_t *written)
 {
-    const struct bruskelde_slots *own = slots;
-    struct bruskelde_tabled tabled = bruskelde_table(*own, slot, rows, length);
+    struct bruskelde_tabled tabled = bruskelde_table(slots, slot, rows, length);
     *written = tabled.rows;
     return tabled.number;
 }

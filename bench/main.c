@@ -9,13 +9,13 @@
 
 enum { ROUNDS = 2 };
 
-/* A case: what its call is given, the regions that its slot holds, and the number that it is answered with. */
+/* A case: what its call is given, what its slot holds before, and the number that it is answered with. */
 struct measured {
     char group[24];
     const char *name;
     uint32_t number;
     struct given given;
-    struct payload regions;
+    const struct held_message *held;
 };
 
 typedef void action(const struct measured *one);
@@ -28,30 +28,28 @@ static struct {
 
 void mark(void) {}
 
-static void feed(int which, uint64_t kind, const struct payload *payload)
+static void feed(int which, const struct held_message *message)
 {
+    static struct payload payload;
     uint64_t extension;
-    both[which].side->feed(both[which].slots, FILLED_SLOT, kind, payload->size, payload->bytes, payload->size, &extension);
+    write_payload(&payload, message->payload);
+    both[which].side->feed(both[which].slots, FILLED_SLOT, message->kind, payload.size, payload.bytes, payload.size, &extension);
 }
 
-static void fill(int which, const struct payload *regions)
+static void fill(int which, const struct held_message *held)
 {
-    static struct payload held;
     both[which].side->start(both[which].slots);
     both[which].side->open(both[which].slots, FILLED_SLOT);
-    for (size_t i = 0; i < held_message_count; i++) {
-        write_payload(&held, held_messages[i].payload);
-        feed(which, held_messages[i].kind, &held);
-    }
-    feed(which, 155, regions);
+    for (; held->kind != 0; held++)
+        feed(which, held);
 }
 
 /* The case's call, on slots that it may change. */
 static void answer(int which, const struct measured *one, struct answered *answered)
 {
     memset(answered, 0, sizeof *answered);
-    if (one->regions.size > 0)
-        fill(which, &one->regions);
+    if (one->held != NULL)
+        fill(which, one->held);
     answered->number = make_call(both[which].side, both[which].slots, &one->given, answered);
 }
 
@@ -110,7 +108,7 @@ static void for_each_slot_call(action *act)
         one.given.slot = from->slot;
         one.given.kind = from->kind;
         write_payload(&one.given.payload, from->payload);
-        write_payload(&one.regions, from->regions);
+        one.held = from->held;
         act(&one);
     }
 }

@@ -3,10 +3,13 @@
  *
  * Link with the archive that `rt staticlib host` writes, target/staticlib/libhost.a.
  *
- * The functions keep nothing between calls, allocate nothing and may be called from any thread. They take any kind, any size and any
- * bytes. What the caller has to see to is only what C always asks of it: that `bytes` and `row` point to as many elements as the
- * length after them says, that they do not overlap, and that no other thread changes them during the call. A length of 0 may come
- * with a null pointer.
+ * The functions keep nothing between calls, no pointer either, allocate nothing and may be called from any thread. They take any kind,
+ * any size, any bytes, and slots that hold any bytes. What the caller has to see to is only what C always asks of it: that `bytes`, `row`
+ * and `rows` point to as many elements as the length after them says, and `slots` and `shown` to one of their struct; that what one call
+ * is lent does not overlap; and that no other thread uses it during the call. Bytes, and the slots of bruskelde_table, are only read:
+ * other threads may read them too. A length of 0 may come with a null pointer.
+ *
+ * A compiler warns where an answer is dropped: every call that has one is marked BRUSKELDE_MUST_USE.
  *
  * This file is kept by hand: the declarations are those of crates/host/src, lib.rt for the payload calls and slot.rt for the slot calls.
  * The rows are those of crates/record_row/specs/Fields.antt, which the functions are proved to follow.
@@ -16,6 +19,17 @@
 
 #include <stddef.h>
 #include <stdint.h>
+
+#if defined(__GNUC__) /* clang too */
+#define BRUSKELDE_MUST_USE __attribute__((warn_unused_result))
+#elif (defined(__cplusplus) && __cplusplus >= 201703L) || (defined(__STDC_VERSION__) && __STDC_VERSION__ >= 202311L)
+#define BRUSKELDE_MUST_USE [[nodiscard]]
+#elif defined(_MSC_VER)
+#include <sal.h>
+#define BRUSKELDE_MUST_USE _Check_return_
+#else
+#define BRUSKELDE_MUST_USE
+#endif
 
 #ifdef __cplusplus
 extern "C" {
@@ -55,7 +69,7 @@ enum {
 /*
  * Reads the first `size` of the `length` bytes as a payload of `kind`, and answers the number.
  */
-uint32_t bruskelde_read(uint64_t kind, uint64_t size, const uint8_t *bytes, size_t length);
+BRUSKELDE_MUST_USE uint32_t bruskelde_read(uint64_t kind, uint64_t size, const uint8_t *bytes, size_t length);
 
 /*
  * Reads likewise, and hands out the record as numbers.
@@ -66,7 +80,8 @@ uint32_t bruskelde_read(uint64_t kind, uint64_t size, const uint8_t *bytes, size
  *
  * A field that the message does not carry is 0, and so is each list entry past its count. A flag is 0 or 1.
  */
-uint32_t bruskelde_fields(uint64_t kind, uint64_t size, const uint8_t *bytes, size_t length, uint64_t *row, size_t row_length);
+BRUSKELDE_MUST_USE uint32_t bruskelde_fields(uint64_t kind, uint64_t size, const uint8_t *bytes, size_t length, uint64_t *row,
+                                             size_t row_length);
 
 /* The most regions of kind 155, the most numbers in the list of kind 177, the slots, and the numbers in a row of a region table. */
 enum { BRUSKELDE_MOST_REGIONS = 16, BRUSKELDE_MOST_LISTED = 63, BRUSKELDE_SLOTS = 8, BRUSKELDE_TABLE_ROW = 9 };
@@ -269,20 +284,21 @@ struct bruskelde_part {
  * What follows the head of a payload of kind 4 or 5: from there to the payload's end, possibly nothing. It lies within the first `size`
  * bytes. For a payload that bruskelde_read does not answer with 0, and for any other kind, offset and length are 0.
  */
-struct bruskelde_part bruskelde_part(uint64_t kind, uint64_t size, const uint8_t *bytes, size_t length);
+BRUSKELDE_MUST_USE struct bruskelde_part bruskelde_part(uint64_t kind, uint64_t size, const uint8_t *bytes, size_t length);
 
 /*
  * ---- The slots
  *
- * Eight slots, together one value that the player owns: a call takes them and answers with them as it leaves them. There is nothing to
- * free, and any number of such values live side by side. Start from bruskelde_start(); but any value is harmless, also one that no
- * call made.
+ * Eight slots, together one value that the player owns, wherever it likes: a call changes them in place. There is nothing to free, and
+ * any number of such values live side by side.
  *
- *      struct bruskelde_slots slots = bruskelde_start();
- *      struct bruskelde_called opened = bruskelde_open(slots, 3);
- *      slots = opened.slots;
+ *      struct bruskelde_slots slots;
+ *      bruskelde_start(&slots);
+ *      if (bruskelde_open(&slots, 3) != BRUSKELDE_DONE)
+ *          ..
  *
- * A call that answers another number than 0 leaves all eight as they were.
+ * A call that answers another number than 0 leaves all eight as they were; one that answers 0 changes the named slot at most. Any bytes
+ * in the slots are harmless, also those that no call made.
  */
 
 /* Kind 45. Fields that it does not carry are 0, here and below. */
@@ -446,29 +462,35 @@ struct bruskelde_slots {
     struct bruskelde_slot slots[BRUSKELDE_SLOTS];
 };
 
-/* Eight closed slots. */
-struct bruskelde_slots bruskelde_start(void);
+/* How many bytes the slots are: 6,080. */
+enum { BRUSKELDE_SLOT_SIZE = 760, BRUSKELDE_SLOTS_SIZE = BRUSKELDE_SLOTS * BRUSKELDE_SLOT_SIZE };
 
-/* The number, and the slots after the call. */
-struct bruskelde_called {
-    uint32_t number;
-    struct bruskelde_slots slots;
-};
+#ifdef __cplusplus
+static_assert(sizeof(struct bruskelde_slots) == BRUSKELDE_SLOTS_SIZE, "struct bruskelde_slots is not as large as the library's");
+#elif defined(__STDC_VERSION__) && __STDC_VERSION__ >= 201112L
+_Static_assert(sizeof(struct bruskelde_slots) == BRUSKELDE_SLOTS_SIZE, "struct bruskelde_slots is not as large as the library's");
+#endif
+
+/* How many they are to the library. A player asks this first: where it is not BRUSKELDE_SLOTS_SIZE, the library is not the one that this
+ * header declares, and no other call may be made. */
+BRUSKELDE_MUST_USE uint64_t bruskelde_slots_size(void);
+
+/* Eight closed slots, whatever stood there. */
+void bruskelde_start(struct bruskelde_slots *slots);
 
 /* Opens a slot, closed or open: it holds nothing. Do this whenever a slot passes to another camera. */
-struct bruskelde_called bruskelde_open(struct bruskelde_slots slots, uint64_t slot);
+BRUSKELDE_MUST_USE uint32_t bruskelde_open(struct bruskelde_slots *slots, uint64_t slot);
 
 /* Closes a slot and clears it. */
-struct bruskelde_called bruskelde_close(struct bruskelde_slots slots, uint64_t slot);
+BRUSKELDE_MUST_USE uint32_t bruskelde_close(struct bruskelde_slots *slots, uint64_t slot);
 
 /* A coded video sequence begins: the slot holds nothing. */
-struct bruskelde_called bruskelde_sequence(struct bruskelde_slots slots, uint64_t slot);
+BRUSKELDE_MUST_USE uint32_t bruskelde_sequence(struct bruskelde_slots *slots, uint64_t slot);
 
-/* The number, the count of extension bits in the payload's tail (0 without one, and with a refusal), and the slots after the call. */
+/* The number, and the count of extension bits in the payload's tail: 0 without one, and with a refusal. */
 struct bruskelde_fed {
     uint32_t number;
     uint32_t extension;
-    struct bruskelde_slots slots;
 };
 
 /*
@@ -476,18 +498,12 @@ struct bruskelde_fed {
  * or 155 in place of the one before; a cancel leaves nothing of its kind. The other kinds are read and not held. What the payload says
  * is what bruskelde_fields hands out for the same bytes.
  */
-struct bruskelde_fed bruskelde_feed(struct bruskelde_slots slots, uint64_t slot, uint64_t kind, uint64_t size, const uint8_t *bytes,
-                                    size_t length);
+BRUSKELDE_MUST_USE struct bruskelde_fed bruskelde_feed(struct bruskelde_slots *slots, uint64_t slot, uint64_t kind, uint64_t size,
+                                                       const uint8_t *bytes, size_t length);
 
-/* The number, the five held records as they were at the picture, and the slots after it. */
-struct bruskelde_pictured {
-    uint32_t number;
-    struct bruskelde_held held;
-    struct bruskelde_slots slots;
-};
-
-/* A picture is shown: answers what the slot holds, and then drops each record whose persistence flag is 0. */
-struct bruskelde_pictured bruskelde_picture(struct bruskelde_slots slots, uint64_t slot);
+/* A picture is shown: writes what the slot holds to `shown`, and then drops each record whose persistence flag is 0. With a refusal
+ * `shown` is zeros: nothing is held. */
+BRUSKELDE_MUST_USE uint32_t bruskelde_picture(struct bruskelde_slots *slots, uint64_t slot, struct bruskelde_held *shown);
 
 /* The number, and how many rows were written. */
 struct bruskelde_tabled {
@@ -500,7 +516,8 @@ struct bruskelde_tabled {
  * transform. One row a region, and with the matching flag as many again for the second eye. `length` counts numbers, not rows:
  * 2 * BRUSKELDE_MOST_REGIONS * BRUSKELDE_TABLE_ROW are enough for any table. Numbers past the rows stay, and with a refusal all do.
  */
-struct bruskelde_tabled bruskelde_table(struct bruskelde_slots slots, uint64_t slot, uint64_t *rows, size_t length);
+BRUSKELDE_MUST_USE struct bruskelde_tabled bruskelde_table(const struct bruskelde_slots *slots, uint64_t slot, uint64_t *rows,
+                                                           size_t length);
 
 #ifdef __cplusplus
 }

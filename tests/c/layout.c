@@ -11,7 +11,7 @@
 #include <stdlib.h>
 #include <string.h>
 
-#include "../../host/bruskelde.h"
+#include "messages.h"
 
 static uint64_t compared;
 
@@ -25,138 +25,6 @@ static void same(const char *what, uint64_t held, uint64_t expected)
 }
 
 #define SAME(field, expected) same(#field, (uint64_t)(field), (expected))
-
-/* ---- random numbers */
-
-static uint64_t state = 1;
-
-static uint64_t any(unsigned bits)
-{
-    state = state * 6364136223846793005u + 1442695040888963407u;
-    return state >> (64 - bits);
-}
-
-/* ---- a payload, bit by bit */
-
-static struct {
-    uint8_t bytes[1024];
-    size_t bits;
-} payload;
-
-static void put(uint64_t value, unsigned width)
-{
-    while (width-- > 0) {
-        if (value >> width & 1)
-            payload.bytes[payload.bits / 8] |= (uint8_t)(0x80 >> payload.bits % 8);
-        payload.bits++;
-    }
-}
-
-static void put_any(unsigned width)
-{
-    put(any(width), width);
-}
-
-/* ue(v) of a number below 2^31 - 1 */
-static void put_golomb(uint64_t value)
-{
-    unsigned zeros = 0;
-    while ((value + 1) >> (zeros + 1) != 0)
-        zeros++;
-    put(0, zeros);
-    put(value + 1, zeros + 1);
-}
-
-/* a one and zeros, up to a whole byte */
-static void put_tail(void)
-{
-    if (payload.bits % 8 != 0)
-        put(1, 1);
-    while (payload.bits % 8 != 0)
-        put(0, 1);
-}
-
-/* ---- a taken, uncancelled message of each held kind */
-
-static void make_frame_packing(void)
-{
-    put_golomb(any(8));
-    put(0, 1);
-    put(3 + any(1), 7);
-    put(0, 1);
-    put(any(1), 6);
-    put_any(6);
-    put_any(16);
-    put(0, 8);
-    put_any(1);
-    put_any(1);
-}
-
-static void make_orientation(void)
-{
-    put(0, 1);
-    put_any(4);
-    put(0, 3);
-}
-
-static void make_equirectangular(void)
-{
-    put(0, 1);
-    put_any(1);
-    put(1, 1);
-    put(0, 2);
-    put_any(3);
-    put_any(16);
-}
-
-/* an angle in two's complement, of both signs and within every rule */
-static void put_angle(void)
-{
-    put((uint32_t)any(23) - (1u << 22), 32);
-}
-
-static void make_rotation(void)
-{
-    put(0, 1);
-    put_any(1);
-    put(0, 6);
-    put_angle();
-    put_angle();
-    put_angle();
-}
-
-static void make_region(void)
-{
-    unsigned guarded = (unsigned)any(1);
-    put(0, 4);
-    put_any(3);
-    put(guarded, 1);
-    for (int i = 0; i < 4; i++)
-        put_any(32);
-    for (int i = 0; i < 4; i++)
-        put_any(16);
-    if (!guarded)
-        return;
-    put_any(32);
-    put(1, 1);
-    put_any(12);
-    put(0, 3);
-}
-
-static void make_packing(void)
-{
-    put(0, 1);
-    put_any(1);
-    put_any(1);
-    put(0, 5);
-    put(BRUSKELDE_MOST_REGIONS, 8);
-    put(any(31) + 1, 32);
-    put(any(31) + 1, 32);
-    put(any(15) + 1, 16);
-    put(any(15) + 1, 16);
-    for (int i = 0; i < BRUSKELDE_MOST_REGIONS; i++)
-        make_region();
-}
 
 /* ---- each field of a held record, against the row */
 
@@ -277,9 +145,9 @@ static const struct kind {
 
 /* ---- outward: what is fed, as the slots and a picture hand it back */
 
-static struct bruskelde_slots feed(struct bruskelde_slots slots, uint64_t slot, const struct kind *kind, uint64_t *row)
+static void feed(struct bruskelde_slots *slots, uint64_t slot, const struct kind *kind, uint64_t *row)
 {
-    memset(&payload, 0, sizeof payload);
+    begin_payload();
     kind->make();
     put_tail();
     size_t size = payload.bits / 8;
@@ -287,26 +155,22 @@ static struct bruskelde_slots feed(struct bruskelde_slots slots, uint64_t slot, 
     struct bruskelde_fed fed = bruskelde_feed(slots, slot, kind->number, size, payload.bytes, size);
     SAME(fed.number, BRUSKELDE_TAKEN);
     SAME(fed.extension, row[BRUSKELDE_EXTENSION]);
-    return fed.slots;
 }
 
-static struct bruskelde_slots outward(struct bruskelde_slots slots, uint64_t slot)
+static void outward(struct bruskelde_slots *slots, uint64_t slot)
 {
     enum { KINDS = sizeof kinds / sizeof *kinds };
     static uint64_t rows[KINDS][BRUSKELDE_ROW_MOST];
-    struct bruskelde_called opened = bruskelde_open(slots, slot);
-    SAME(opened.number, BRUSKELDE_DONE);
-    slots = opened.slots;
+    struct bruskelde_held shown;
+    SAME(bruskelde_open(slots, slot), BRUSKELDE_DONE);
     for (int i = 0; i < KINDS; i++)
-        slots = feed(slots, slot, &kinds[i], rows[i]);
-    struct bruskelde_pictured picture = bruskelde_picture(slots, slot);
-    SAME(picture.number, BRUSKELDE_DONE);
-    SAME(picture.slots.slots[slot].open, 1);
-    for (int i = 0; i < KINDS; i++) {
-        kinds[i].check(&slots.slots[slot].held, rows[i]);
-        kinds[i].check(&picture.held, rows[i]);
-    }
-    return picture.slots;
+        feed(slots, slot, &kinds[i], rows[i]);
+    for (int i = 0; i < KINDS; i++)
+        kinds[i].check(&slots->slots[slot].held, rows[i]);
+    SAME(bruskelde_picture(slots, slot, &shown), BRUSKELDE_DONE);
+    SAME(slots->slots[slot].open, 1);
+    for (int i = 0; i < KINDS; i++)
+        kinds[i].check(&shown, rows[i]);
 }
 
 /* ---- inward: a table of slots that no call made */
@@ -368,7 +232,7 @@ static void inward(uint64_t slot, uint8_t arrangement_type)
     const struct bruskelde_packing *packing = &slots.slots[slot].held.regions.value;
     const uint64_t beside[4] = {packing->projected_width / 2, 0, packing->packed_width / 2, 0};
     const uint64_t below[4] = {0, packing->projected_height / 2, 0, packing->packed_height / 2};
-    struct bruskelde_tabled table = bruskelde_table(slots, slot, rows, sizeof rows / sizeof *rows);
+    struct bruskelde_tabled table = bruskelde_table(&slots, slot, rows, sizeof rows / sizeof *rows);
     SAME(table.number, BRUSKELDE_DONE);
     SAME(table.rows, ROWS);
     for (int i = 0; i < BRUSKELDE_MOST_REGIONS; i++) {
@@ -444,7 +308,7 @@ static void check_depth(unsigned present)
         {BRUSKELDE_D_MAX_FLAG, BRUSKELDE_D_MAX},
     };
     struct value values[4];
-    memset(&payload, 0, sizeof payload);
+    begin_payload();
     put(present, 4);
     put_golomb(3);
     if ((present & 3) != 0)
@@ -488,10 +352,11 @@ static void check_user_data(void)
 
 static void nothing_lent(void)
 {
-    struct bruskelde_slots slots = bruskelde_start();
-    struct bruskelde_called opened = bruskelde_open(slots, 0);
-    struct bruskelde_fed fed = bruskelde_feed(opened.slots, 0, BRUSKELDE_ORIENTATION, 0, NULL, 0);
-    struct bruskelde_tabled table = bruskelde_table(opened.slots, 0, NULL, 0);
+    struct bruskelde_slots slots;
+    bruskelde_start(&slots);
+    SAME(bruskelde_open(&slots, 0), BRUSKELDE_DONE);
+    struct bruskelde_fed fed = bruskelde_feed(&slots, 0, BRUSKELDE_ORIENTATION, 0, NULL, 0);
+    struct bruskelde_tabled table = bruskelde_table(&slots, 0, NULL, 0);
     struct bruskelde_part part = bruskelde_part(BRUSKELDE_REGISTERED, 0, NULL, 0);
     SAME(bruskelde_read(BRUSKELDE_ORIENTATION, 0, NULL, 0), BRUSKELDE_SHORT);
     SAME(bruskelde_fields(BRUSKELDE_ORIENTATION, 0, NULL, 0, NULL, 0), BRUSKELDE_SHORT);
@@ -503,10 +368,12 @@ static void nothing_lent(void)
 
 int main(void)
 {
-    struct bruskelde_slots slots = bruskelde_start();
+    struct bruskelde_slots slots;
+    SAME(bruskelde_slots_size(), sizeof slots);
+    bruskelde_start(&slots);
     for (int turn = 0; turn < 20; turn++)
         for (uint64_t slot = 0; slot < BRUSKELDE_SLOTS; slot++) {
-            slots = outward(slots, slot);
+            outward(&slots, slot);
             inward(slot, 3);
             inward(slot, 4);
         }

@@ -6,7 +6,7 @@
  */
 #define _DEFAULT_SOURCE
 
-#include "../../host/bruskelde.h"
+#include "../c/fields.h"
 
 #include <signal.h>
 #include <stdint.h>
@@ -15,7 +15,7 @@
 #include <sys/mman.h>
 #include <unistd.h>
 
-enum { LENT_BYTES = 65536, GUARD_BYTES = 65536, END = -1 };
+enum { LENT_BYTES = 65536, GUARD_BYTES = 65536, END = -1, UNWRITTEN = 0xa5 };
 
 static uint8_t requests[65536];
 static size_t received, taken;
@@ -25,7 +25,8 @@ static size_t answered;
 
 static uint8_t *bytes_end;
 static uint8_t *rows_end;
-static struct bruskelde_slots slots;
+static struct bruskelde_slots *slots;
+static struct bruskelde_held *shown;
 
 static void send_answers(void)
 {
@@ -69,7 +70,7 @@ static void take(void *number, size_t width)
     }
 }
 
-static inline void give(const void *number, size_t width)
+static inline void give(void *number, size_t width)
 {
     if (answered + width > sizeof answers)
         send_answers();
@@ -87,131 +88,6 @@ static uint64_t take_number(void)
 static void give_number(uint64_t number)
 {
     give(&number, sizeof number);
-}
-
-/* ---- The slots, field by field */
-
-enum direction { IN, OUT };
-
-static inline void move(enum direction direction, void *number, size_t width)
-{
-    if (direction == OUT)
-        give(number, width);
-    else
-        take(number, width);
-}
-
-#define MOVE(number) move(direction, &(number), sizeof(number))
-
-static void move_frame_packing(enum direction direction, struct bruskelde_held_frame_packing *held)
-{
-    struct bruskelde_frame_packing *value = &held->value;
-    struct bruskelde_layout *layout = &value->layout;
-    MOVE(held->on);
-    MOVE(value->id);
-    MOVE(value->cancel);
-    MOVE(layout->arrangement_type);
-    MOVE(layout->quincunx);
-    MOVE(layout->content_interpretation);
-    MOVE(layout->flags.spatial_flipping);
-    MOVE(layout->flags.frame0_flipped);
-    MOVE(layout->flags.field_views);
-    MOVE(layout->flags.current_is_frame0);
-    MOVE(layout->flags.frame0_self_contained);
-    MOVE(layout->flags.frame1_self_contained);
-    MOVE(layout->grid.frame0_x);
-    MOVE(layout->grid.frame0_y);
-    MOVE(layout->grid.frame1_x);
-    MOVE(layout->grid.frame1_y);
-    MOVE(layout->persistence);
-    MOVE(value->upsampled_aspect_ratio);
-}
-
-static void move_orientation(enum direction direction, struct bruskelde_held_orientation *held)
-{
-    MOVE(held->on);
-    MOVE(held->value.cancel);
-    MOVE(held->value.persistence);
-    MOVE(held->value.transform);
-}
-
-static void move_equirectangular(enum direction direction, struct bruskelde_held_equirectangular *held)
-{
-    MOVE(held->on);
-    MOVE(held->value.cancel);
-    MOVE(held->value.persistence);
-    MOVE(held->value.guarded);
-    MOVE(held->value.guard_type);
-    MOVE(held->value.left_width);
-    MOVE(held->value.right_width);
-}
-
-static void move_rotation(enum direction direction, struct bruskelde_held_rotation *held)
-{
-    MOVE(held->on);
-    MOVE(held->value.cancel);
-    MOVE(held->value.persistence);
-    MOVE(held->value.yaw);
-    MOVE(held->value.pitch);
-    MOVE(held->value.roll);
-    MOVE(held->value.degrees.yaw);
-    MOVE(held->value.degrees.pitch);
-    MOVE(held->value.degrees.roll);
-}
-
-static void move_region(enum direction direction, struct bruskelde_region *region)
-{
-    MOVE(region->transform);
-    MOVE(region->guarded);
-    MOVE(region->projected.width);
-    MOVE(region->projected.height);
-    MOVE(region->projected.top);
-    MOVE(region->projected.left);
-    MOVE(region->packed.width);
-    MOVE(region->packed.height);
-    MOVE(region->packed.top);
-    MOVE(region->packed.left);
-    MOVE(region->guard.left_width);
-    MOVE(region->guard.right_width);
-    MOVE(region->guard.top_height);
-    MOVE(region->guard.bottom_height);
-    MOVE(region->guard.not_used);
-    MOVE(region->guard.types.type0);
-    MOVE(region->guard.types.type1);
-    MOVE(region->guard.types.type2);
-    MOVE(region->guard.types.type3);
-}
-
-static void move_packing(enum direction direction, struct bruskelde_held_packing *held)
-{
-    MOVE(held->on);
-    MOVE(held->value.cancel);
-    MOVE(held->value.persistence);
-    MOVE(held->value.matching);
-    MOVE(held->value.count);
-    MOVE(held->value.projected_width);
-    MOVE(held->value.projected_height);
-    MOVE(held->value.packed_width);
-    MOVE(held->value.packed_height);
-    for (size_t i = 0; i < BRUSKELDE_MOST_REGIONS; i++)
-        move_region(direction, &held->value.regions[i]);
-}
-
-static void move_held(enum direction direction, struct bruskelde_held *held)
-{
-    move_frame_packing(direction, &held->frame_packing);
-    move_orientation(direction, &held->orientation);
-    move_equirectangular(direction, &held->equirectangular);
-    move_rotation(direction, &held->rotation);
-    move_packing(direction, &held->regions);
-}
-
-static void move_slots(enum direction direction)
-{
-    for (size_t i = 0; i < BRUSKELDE_SLOTS; i++) {
-        MOVE(slots.slots[i].open);
-        move_held(direction, &slots.slots[i].held);
-    }
 }
 
 /* ---- What is lent */
@@ -291,26 +167,29 @@ static void call_read(void)
     give_rows(row);
 }
 
+static void give_slots(void)
+{
+    each_of_slots(slots, give);
+}
+
 static void call_start(void)
 {
-    slots = bruskelde_start();
-    give_number(BRUSKELDE_TAKEN);
-    move_slots(OUT);
+    bruskelde_start(slots);
+    give_number(BRUSKELDE_DONE);
+    give_slots();
 }
 
 /* Slots that no call made, their padding too. */
 static void set_slots(void)
 {
-    memset(&slots, (int)take_number(), sizeof slots);
-    move_slots(IN);
+    memset(slots, (int)take_number(), sizeof *slots);
+    each_of_slots(slots, take);
 }
 
-static void call_slot(struct bruskelde_called (*function)(struct bruskelde_slots, uint64_t))
+static void call_slot(uint32_t (*function)(struct bruskelde_slots *, uint64_t))
 {
-    struct bruskelde_called called = function(slots, take_number());
-    slots = called.slots;
-    give_number(called.number);
-    move_slots(OUT);
+    give_number(function(slots, take_number()));
+    give_slots();
 }
 
 static void call_feed(void)
@@ -318,19 +197,17 @@ static void call_feed(void)
     uint64_t slot = take_number();
     struct payload payload = take_payload();
     struct bruskelde_fed fed = bruskelde_feed(slots, slot, payload.kind, payload.size, payload.bytes, payload.length);
-    slots = fed.slots;
     give_number(fed.number);
     give_number(fed.extension);
-    move_slots(OUT);
+    give_slots();
 }
 
 static void call_picture(void)
 {
-    struct bruskelde_pictured pictured = bruskelde_picture(slots, take_number());
-    slots = pictured.slots;
-    give_number(pictured.number);
-    move_held(OUT, &pictured.held);
-    move_slots(OUT);
+    memset(shown, UNWRITTEN, sizeof *shown);
+    give_number(bruskelde_picture(slots, take_number(), shown));
+    each_of_held(shown, give);
+    give_slots();
 }
 
 static void call_table(void)
@@ -347,9 +224,11 @@ int main(void)
 {
     bytes_end = guarded_end();
     rows_end = guarded_end();
+    slots = (struct bruskelde_slots *)guarded_end() - 1;
+    shown = (struct bruskelde_held *)guarded_end() - 1;
     signal(SIGSEGV, on_fault);
     signal(SIGBUS, on_fault);
-    slots = bruskelde_start();
+    bruskelde_start(slots);
     for (int request; (request = next_byte()) != END;) {
         switch (request) {
         case 'r': call_read(); break;

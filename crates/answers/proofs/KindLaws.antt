@@ -1,5 +1,6 @@
 -- All that is shown kind by kind: a number names a kind exactly where it is the kind's own; an answer is of one kind, with one record; a refusal
--- comes with the kind's zeros; a record loses nothing of its message; a message of a kind that is not held is a passing one; and only kinds 4 and 5 have a rest.
+-- comes with the kind's zeros; a record loses nothing of its message; a message of a kind that is not held is a passing one; only kinds 4 and 5 have
+-- a rest; and only kinds 155, 177 and 5 have a record beside their message.
 -- Assumes nothing.
 use Prim.Native.Nat.{ℕ}
 use mathlib.Core.Path.{_≡_, refl, sym, ap, _∙_}
@@ -8,6 +9,8 @@ use mathlib.Core.Bool.{Bool, true, false}
 use mathlib.Core.List.{List, [], _∷_}
 use native.Mathlib.Omega.{arith}
 use borrow.Author.Tests.{eqb-true}
+use denote.Enum.Declared.{tagOf}
+use types.Run.{OneOf, miss}
 use lib.Dec.{eqb}
 use Rattle.bits.specs.Choice.{if_then_else_}
 use Rattle.bits.specs.declared.refusal.Refusal.{Refusal}
@@ -21,9 +24,10 @@ use Rattle.kind_region_wise.proofs.Faithful as region-wise
 use Rattle.kind_alpha.proofs.Faithful as alpha
 use Rattle.kind_depth.proofs.Faithful as depth
 use Rattle.kind_user_data.proofs.Faithful as user-data
-use Rattle.answers.specs.Listed.{Record, listing, form, number, Unheld, listedKinds, namedIn, named}
+use Rattle.answers.specs.Listed.{Record, listing, nothing, form, number, Unheld, listedKinds, namedIn, named}
 use Rattle.answers.specs.Answer.{messageOf, made, answerFor, refusedAs}
 use Rattle.answers.specs.declared.Rest.the-variants.{Nowhere}
+use Rattle.answers.proofs.kind.Kind.{the-type}
 use Rattle.answers.specs.declared.kind.Kind.{Kind}
 use Rattle.answers.specs.declared.kind.Kind.the-variants as kinds
 use Rattle.answers.specs.declared.kind.Named.{Named}
@@ -182,3 +186,20 @@ rest-of kinds.Alpha = neither (λ a. refl)
 rest-of kinds.Depth = neither (λ a. refl)
 rest-of kinds.Registered = registered
 rest-of kinds.Unregistered = unregistered
+
+-- ---- which kinds have a record beside their message
+
+-- all others, by their places in `Kind`
+abbrev pub unaccompanied : List ℕ
+unaccompanied = 0 ∷ 1 ∷ 2 ∷ 3 ∷ 5 ∷ 7 ∷ []
+
+pub nothing-beside : (k : Kind) → OneOf unaccompanied (tagOf the-type k) → (a : Record k) → listing k .beside a ≡ nothing
+nothing-beside kinds.FramePacking h a = refl
+nothing-beside kinds.Orientation h a = refl
+nothing-beside kinds.Equirectangular h a = refl
+nothing-beside kinds.Rotation h a = refl
+nothing-beside kinds.RegionWise h a = absurd (miss unaccompanied 4 tt h)
+nothing-beside kinds.Alpha h a = refl
+nothing-beside kinds.Depth h a = absurd (miss unaccompanied 6 tt h)
+nothing-beside kinds.Registered h a = refl
+nothing-beside kinds.Unregistered h a = absurd (miss unaccompanied 8 tt h)

@@ -8,6 +8,8 @@ use Rattle.format.specs.Whole as reading
 use Rattle.answers.specs.Listed.{Record, listing, nothing, zeros}
 use Rattle.answers.specs.declared.kind.Kind.{Kind}
 use Rattle.answers.specs.declared.Answer.{Answer}
+use Rattle.answers.specs.declared.Beside.{Beside}
+use Rattle.answers.specs.declared.Brief.{Brief}
 use Rattle.answers.specs.declared.Outcome.{Outcome}
 use Rattle.answers.specs.declared.Outcome.the-variants.{Taken, SetAside, Refused}
 use Rattle.answers.specs.declared.kind.Message.{Message}
@@ -22,6 +24,14 @@ outcomeNumber (Refused r) = refusalNumber r
 
 abbrev pub answerNumber : Answer → ℕ
 answerNumber a = outcomeNumber (a .outcome)
+
+-- an answer but for the records beside its message
+abbrev pub briefOf : Answer → Brief
+briefOf a = record { outcome = a .outcome; message = a .message; extension = a .extension; rest = a .rest }
+
+-- and with them
+abbrev pub answerOf : Brief → Beside → Answer
+answerOf b s = record { outcome = b .outcome; message = b .message; extension = b .extension; rest = b .rest; beside = s }
 
 -- only what is taken has a rest
 abbrev pub restFor : Outcome → Rest → Rest

@@ -2,7 +2,6 @@
 pub mod kind;
 
 use crate::kind::Kind;
-use crate::kind::LastingMessage;
 use crate::kind::Message;
 use crate::kind::PassingMessage;
 use bits::ending::Ending;
@@ -12,9 +11,8 @@ use kind_region_wise::RegionWise;
 use kind_user_data::registered::Registered;
 use kind_user_data::unregistered::Unregistered;
 ghost use mathlib.Core.Path.{_≡_};
-ghost use Rattle.format.specs.Whole.{ended};
-ghost use Rattle.answers.specs.Listed.{never, nothing};
-ghost use Rattle.answers.specs.Answer.{outcomeNumber, plain, made, answerFor, finished, refusedAs, unknown};
+ghost use Rattle.answers.specs.Listed.{nothing};
+ghost use Rattle.answers.specs.Answer.{outcomeNumber, briefOf, answerOf, plain, made, finished, refusedAs, unknown};
 
 pub enum Outcome {
     Taken,
@@ -49,7 +47,8 @@ pub struct Beside {
 }
 
 impl Beside {
-    fn nothing() -> Beside
+    // Zeros: the message is of no kind whose record holds an array.
+    pub fn nothing() -> Beside
         ensures { λ r. ⌜ r ≡ nothing ⌝ }
     {
         Beside {
@@ -60,7 +59,66 @@ impl Beside {
     }
 }
 
-// On a refusal the message and the records beside it are zeros, and there is no rest.
+// An answer but for the records beside its message. On a refusal the message is zeros, and there is no rest.
+pub struct Brief {
+    pub outcome: Outcome,
+    pub message: Message,
+    pub extension: u32,
+    pub rest: Rest,
+}
+
+impl Brief {
+    // With no rest.
+    fn plain(outcome: Outcome, message: Message, extension: u32) -> Brief
+        ensures { λ r. ⌜ r ≡ briefOf (plain outcome message extension) ⌝ }
+    {
+        Brief {
+            outcome,
+            message,
+            extension,
+            rest: Rest::Nowhere,
+        }
+    }
+
+    // The refusal of a payload of a kind, with zeros.
+    pub fn refused(kind: Kind, why: Refusal) -> Brief
+        ensures { λ r. ⌜ r ≡ briefOf (refusedAs kind why) ⌝ }
+    {
+        Brief::plain(Outcome::Refused(why), Message::zero(kind), 0)
+    }
+
+    // The refusal of a kind that is none of those listed: there are no fields.
+    pub fn unknown() -> Brief
+        ensures { λ r. ⌜ r ≡ briefOf unknown ⌝ }
+    {
+        Brief::plain(Outcome::Refused(Refusal::kind()), Message::Nothing, 0)
+    }
+
+    // By how the payload ends: the message with that outcome, or the refusal.
+    pub fn finished(kind: Kind, outcome: Outcome, message: Message, end: Ending) -> Brief
+        ensures { λ r. ⌜ r ≡ briefOf (finished kind outcome message end) ⌝ }
+    {
+        match end {
+            Ending::Extension(e) => return Brief::plain(outcome, message, e),
+            Ending::Refused(why) => return Brief::refused(kind, why),
+        }
+    }
+
+    // Kind 4: what follows the head is the payload's rest.
+    pub fn registered(value: Registered) -> Brief
+        ensures { λ r. ⌜ r ≡ briefOf (made Kind.Registered Outcome.Taken value 0) ⌝ }
+    {
+        let head = value.head_bytes();
+        Brief {
+            outcome: Outcome::Taken,
+            message: Message::Passing(PassingMessage::Registered(value)),
+            extension: 0,
+            rest: Rest::From(head),
+        }
+    }
+}
+
+// On a refusal the records beside the message are zeros too.
 pub struct Answer {
     pub outcome: Outcome,
     pub message: Message,
@@ -70,109 +128,32 @@ pub struct Answer {
 }
 
 impl Answer {
-    // With zeros beside the message, and no rest.
-    pub fn plain(outcome: Outcome, message: Message, extension: u32) -> Answer
-        ensures { λ r. ⌜ r ≡ plain outcome message extension ⌝ }
+    pub fn of(brief: Brief, beside: Beside) -> Answer
+        ensures { λ r. ⌜ r ≡ answerOf brief beside ⌝ }
     {
-        let beside = Beside::nothing();
+        let outcome = brief.outcome;
+        let message = brief.message;
+        let rest = brief.rest;
         Answer {
             outcome,
             message,
-            extension,
-            rest: Rest::Nowhere,
+            extension: brief.extension,
+            rest,
             beside,
         }
+    }
+
+    // With nothing beside the message, and no rest.
+    pub fn plain(outcome: Outcome, message: Message, extension: u32) -> Answer
+        ensures { λ r. ⌜ r ≡ plain outcome message extension ⌝ }
+    {
+        Answer::of(Brief::plain(outcome, message, extension), Beside::nothing())
     }
 
     // The refusal of a payload of a kind, with zeros.
     pub fn refused(kind: Kind, why: Refusal) -> Answer
         ensures { λ r. ⌜ r ≡ refusedAs kind why ⌝ }
     {
-        Answer::plain(Outcome::Refused(why), Message::zero(kind), 0)
-    }
-
-    // The refusal of a kind that is none of those listed: there are no fields.
-    pub fn unknown() -> Answer
-        ensures { λ r. ⌜ r ≡ unknown ⌝ }
-    {
-        Answer::plain(Outcome::Refused(Refusal::kind()), Message::Nothing, 0)
-    }
-
-    // By how the payload ends: the message with that outcome, or the refusal.
-    pub fn finished(kind: Kind, outcome: Outcome, message: Message, end: Ending) -> Answer
-        ensures { λ r. ⌜ r ≡ finished kind outcome message end ⌝ }
-    {
-        match end {
-            Ending::Extension(e) => return Answer::plain(outcome, message, e),
-            Ending::Refused(why) => return Answer::refused(kind, why),
-        }
-    }
-
-    // The same for the kinds whose record stands beside the message.
-    pub fn region_wise(value: RegionWise, end: Ending) -> Answer
-        ensures { λ r. ⌜ r ≡ answerFor Kind.RegionWise (ended never value end) ⌝ }
-    {
-        match end {
-            Ending::Extension(e) => {
-                let mut beside = Beside::nothing();
-                beside.region_wise = value;
-                Answer {
-                    outcome: Outcome::Taken,
-                    message: Message::Lasting(LastingMessage::RegionWise),
-                    extension: e,
-                    rest: Rest::Nowhere,
-                    beside,
-                }
-            }
-            Ending::Refused(why) => Answer::refused(Kind::RegionWise, why),
-        }
-    }
-
-    pub fn depth(value: Depth, end: Ending) -> Answer
-        ensures { λ r. ⌜ r ≡ answerFor Kind.Depth (ended never value end) ⌝ }
-    {
-        match end {
-            Ending::Extension(e) => {
-                let mut beside = Beside::nothing();
-                beside.depth = value;
-                Answer {
-                    outcome: Outcome::Taken,
-                    message: Message::Passing(PassingMessage::Depth),
-                    extension: e,
-                    rest: Rest::Nowhere,
-                    beside,
-                }
-            }
-            Ending::Refused(why) => Answer::refused(Kind::Depth, why),
-        }
-    }
-
-    // Kinds 4 and 5: what follows the head is the payload's rest.
-    pub fn registered(value: Registered) -> Answer
-        ensures { λ r. ⌜ r ≡ made Kind.Registered Outcome.Taken value 0 ⌝ }
-    {
-        let head = value.head_bytes();
-        let beside = Beside::nothing();
-        Answer {
-            outcome: Outcome::Taken,
-            message: Message::Passing(PassingMessage::Registered(value)),
-            extension: 0,
-            rest: Rest::From(head),
-            beside,
-        }
-    }
-
-    pub fn unregistered(value: Unregistered) -> Answer
-        ensures { λ r. ⌜ r ≡ made Kind.Unregistered Outcome.Taken value 0 ⌝ }
-    {
-        let mut beside = Beside::nothing();
-        beside.unregistered = value;
-        Answer {
-            outcome: Outcome::Taken,
-            message: Message::Passing(PassingMessage::Unregistered),
-            extension: 0,
-            rest: Rest::From(16),
-            beside,
-        }
+        Answer::of(Brief::refused(kind, why), Beside::nothing())
     }
 }

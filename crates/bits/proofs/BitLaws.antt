@@ -6,7 +6,6 @@ use mathlib.Core.Logic.{_⊎_, inl, inr}
 use mathlib.Core.Bool.{Bool, true, false}
 use mathlib.Core.List.{List, [], _∷_, _++_}
 use native.Mathlib.Nat.{lt-of-lt-of-le, add-zero, zero-add, add-suc, suc-add, sub-zero, zero-sub, suc-sub-suc, pow-suc, add-mul, mul-assoc, add-assoc}
-use native.Mathlib.Numerals.{add-one}
 use native.Mathlib.Omega.{arith}
 use lib.ListN.{length, take, drop, length-append}
 use lib.Seq.{getD-take, length-take-le}
@@ -31,17 +30,8 @@ digit-rest zero h = refl
 digit-rest (suc zero) h = refl
 digit-rest (suc (suc r)) h = absurd (omega arith)
 
--- a bit is the one whose digit is 1
-pub digit-one : (b : Bool) → digit b ≡ 1 → b ≡ true
-digit-one false e = absurd (omega arith)
-digit-one true e = refl
-
-pub digit-zero : (b : Bool) → (digit b ≡ 1 → ⊥) → b ≡ false
-digit-zero false e = refl
-digit-zero true e = absurd (e refl)
-
 -- bits one after the other
-pub number-append : (v w : List Bool) → unsignedOf (v ++ w) ≡ unsignedOf v * 2 ^ length w + unsignedOf w
+number-append : (v w : List Bool) → unsignedOf (v ++ w) ≡ unsignedOf v * 2 ^ length w + unsignedOf w
 unfolding unsignedOf
 number-append [] w = omega arith
 number-append (b ∷ v) w =
@@ -82,25 +72,21 @@ drop-part s p (suc n) (suc m) = rw (suc-sub-suc, add-suc, ← (suc-add p n)) (dr
 pub part-fits : (s : List ℕ) (p n k : ℕ) → n ≤ k → unsignedOf (part s p n) < 2 ^ k
 part-fits s p n k h = lt-of-lt-of-le (rw (length-part s p n) at (number-lt (part s p n))) (pow-mono h)
 
-one-bit : (s : List ℕ) (q x : ℕ) → x * 2 ^ length (part s q 1) + unsignedOf (part s q 1) ≡ x * 2 + digit (bitAt s q)
-unfolding part unsignedOf
-one-bit s q x = omega arith
+-- n bits and then m
+pub number-split : (s : List ℕ) (p n m : ℕ) → unsignedOf (part s p (n + m)) ≡ unsignedOf (part s p n) * 2 ^ m + unsignedOf (part s (p + n) m)
+number-split s p n m =
+    rw (part-add s p n m, number-append (part s p n) (part s (p + n) m), length-part s (p + n) m)
 
 -- one bit more
 pub number-next : (s : List ℕ) (p n : ℕ) → unsignedOf (part s p (n + 1)) ≡ unsignedOf (part s p n) * 2 + digit (bitAt s (p + n))
-number-next s p n = rw (part-add s p n 1, number-append (part s p n) (part s (p + n) 1)) (one-bit s (p + n) (unsignedOf (part s p n)))
+unfolding part unsignedOf
+number-next s p n = number-split s p n 1 ∙ omega arith
 
 -- ---- all bits from a position on
 
 pub length-from : (s : List ℕ) (p : ℕ) → length (from s p) ≡ bitsIn s - p
 unfolding from
 length-from s p = length-part s p (bitsIn s - p)
-
-pub from-cons : (s : List ℕ) (p : ℕ) → p < bitsIn s → from s p ≡ bitAt s p ∷ from s (p + 1)
-unfolding from part
-from-cons s p h =
-    let e : bitsIn s - p ≡ suc (bitsIn s - (p + 1)) = omega arith in
-    ap (part s p) e ∙ ap (λ q. bitAt s p ∷ part s q (bitsIn s - (p + 1))) (sym (add-one p))
 
 pub from-end : (s : List ℕ) (p : ℕ) → bitsIn s ≤ p → from s p ≡ []
 unfolding from part

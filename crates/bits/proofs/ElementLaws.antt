@@ -1,21 +1,22 @@
 -- The laws of u(n), each over n, and of ue(v).
 -- Assumes nothing.
-use Prim.Native.Nat.{ℕ, zero, suc, _+_, _-_, _^_, _≤_, _<_}
+use Prim.Native.Nat.{ℕ, zero, suc, _+_, _-_, _*_, _^_, _≤_, _<_}
 use mathlib.Core.Path.{_≡_, refl, sym, ap, ap₂, _∙_}
 use mathlib.Core.Logic.{_⊎_, inl, inr}
 use mathlib.Core.Bool.{Bool, true, false}
 use mathlib.Core.List.{List, [], _∷_}
-use native.Mathlib.Nat.{add-zero, zero-add, add-suc, suc-add, lt-of-lt-of-le}
+use native.Mathlib.Nat.{add-zero, zero-add, add-suc, suc-add, pow-suc, lt-of-lt-of-le}
 use native.Mathlib.Omega.{arith}
 use lib.ListN.{length, take, drop}
 use lib.Seq.{length-take-le}
 use lib.Pow.{pow-pos, pow-mono}
+use lib.Count.{leadingZeros, leading-unique}
 use borrow.Author.Tests.{le-leb, lt-leb}
-use Rattle.bits.specs.Bits.{bitsIn, bitAt, part, from, unsignedOf}
+use Rattle.bits.specs.Bits.{bitsIn, part, from, unsignedOf}
 use Rattle.bits.specs.Out.{Out, taken, refused, placed}
 use Rattle.bits.specs.Elements.{uFront, meant, ueAfter, uAt, ueAt, leading}
 use Rattle.bits.specs.declared.refusal.Refusal.the-variants.{Short, Zeros}
-use Rattle.bits.proofs.BitLaws.{below, number-lt, length-from, take-from, from-cons, from-end, drop-from}
+use Rattle.bits.proofs.BitLaws.{below, number-lt, length-part, length-from, take-from, drop-from}
 
 -- ---- u(n)
 
@@ -70,19 +71,44 @@ leading-inside (suc d) [] = omega arith
 leading-inside (suc d) (true ∷ w) = omega arith
 leading-inside (suc d) (false ∷ w) = omega (arith, leading-inside d w)
 
-pub leading-end : (s : List ℕ) (p d : ℕ) → bitsIn s ≤ p → leading d (from s p) ≡ 0
+-- d bits say how many of them there are
+leading-take : (d : ℕ) (w : List Bool) → leading d (take d w) ≡ leading d w
 unfolding leading
-leading-end s p zero h = refl
-leading-end s p (suc d) h = rw (from-end s p h)
+leading-take zero w = refl
+leading-take (suc d) [] = refl
+leading-take (suc d) (true ∷ w) = refl
+leading-take (suc d) (false ∷ w) = ap suc (leading-take d w)
 
-pub leading-one : (s : List ℕ) (p d : ℕ) → p < bitsIn s → bitAt s p ≡ true → leading d (from s p) ≡ 0
-unfolding leading
-leading-one s p zero h b = refl
-leading-one s p (suc d) h b = rw (from-cons s p h, b)
+-- without its leading zeros a number is as long as without those of its bits
+leading-bounds : (d : ℕ) (w : List Bool) → length w ≤ d → (unsignedOf w < 2 ^ (length w - leading d w)) × (2 ^ (length w - leading d w) ≤ 2 * unsignedOf w + 1)
+unfolding leading unsignedOf
+leading-bounds zero [] h = omega arith
+leading-bounds (suc d) [] h = omega arith
+leading-bounds zero (b ∷ w) h = absurd (omega arith)
+leading-bounds (suc d) (true ∷ w) h =
+    let all : suc (length w) - 0 ≡ suc (length w) = omega arith in
+    rw (all, pow-suc) (omega (arith, number-lt w))
+leading-bounds (suc d) (false ∷ w) h =
+    let less : suc (length w) - suc (leading d w) ≡ length w - leading d w = omega arith in
+    rw less (omega (arith, leading-bounds d w (omega arith)))
 
-pub leading-zero : (s : List ℕ) (p d : ℕ) → p < bitsIn s → bitAt s p ≡ false → leading (suc d) (from s p) ≡ suc (leading d (from s (p + 1)))
-unfolding leading
-leading-zero s p d h b = rw (from-cons s p h, b)
+-- the zeros that at most d bits start with are the leading zeros of their number, less those that d bits have more
+leading-number : (d : ℕ) (w : List Bool) → length w ≤ d → d - length w + leading d w ≡ leadingZeros d (unsignedOf w)
+leading-number d w h =
+    let b = leading-bounds d w h in
+    leading-unique d (unsignedOf w) (d - length w + leading d w) (length w - leading d w) (omega (arith, leading-inside d w)) (b .0) (b .1)
+
+-- from p on: where n bits are left, and at most d; and where d are there
+pub leading-left : (d : ℕ) (s : List ℕ) (p n : ℕ) → n ≡ bitsIn s - p → n ≤ d → d - n + leading d (from s p) ≡ leadingZeros d (unsignedOf (part s p n))
+unfolding from
+leading-left d s p n e h =
+    let long = length-part s p n in
+    rw (← e) (ap (λ k. d - k + leading d (part s p n)) (sym long) ∙ leading-number d (part s p n) (omega arith))
+
+pub leading-whole : (d : ℕ) (s : List ℕ) (p : ℕ) → d ≤ bitsIn s - p → leading d (from s p) ≡ leadingZeros d (unsignedOf (part s p d))
+leading-whole d s p h =
+    let long = length-part s p d in
+    sym (leading-take d (from s p)) ∙ ap (leading d) (take-from s p d h) ∙ omega (arith, leading-number d (part s p d) (omega arith))
 
 -- ---- ue(v)
 

@@ -1,6 +1,6 @@
 -- The bytes of an element of 128 bits.
 -- Assumes nothing.
-use Prim.Native.Nat.{ℕ, zero, suc, _+_, _-_, _*_, _/_, _%_, _^_, _<_}
+use Prim.Native.Nat.{ℕ, zero, suc, _+_, _-_, _*_, _/_, _%_, _<_}
 use mathlib.Core.Path.{_≡_, refl, sym, ap, _∙_}
 use mathlib.Core.List.{List, [], _∷_, _++_, append-assoc}
 use native.Mathlib.Numerals.{add-one}
@@ -9,7 +9,7 @@ use lib.ListN.{length, length-append, replicate, set}
 use lib.Seq.{set-at}
 use Rattle.bits.specs.Bits.{part, unsignedOf}
 use Rattle.bits.specs.Identifier.{bytesOf}
-use Rattle.bits.proofs.BitLaws.{number-append, part-add, length-part, part-fits}
+use Rattle.bits.proofs.BitLaws.{number-split, part-fits}
 
 length-bytes : (n v : ℕ) → length (bytesOf n v) ≡ n
 unfolding bytesOf
@@ -24,8 +24,7 @@ bytes-next s p i =
     let l = unsignedOf (part s (p + 8 * i) 8) in
     let m : 8 * (i + 1) ≡ 8 * i + 8 = omega arith in
     let e : unsignedOf (part s p (8 * (i + 1))) ≡ h * 256 + l =
-    ap (λ k. unsignedOf (part s p k)) m ∙ ap unsignedOf (part-add s p (8 * i) 8) ∙ number-append (part s p (8 * i)) (part s (p + 8 * i) 8)
-    ∙ ap (λ k. h * 2 ^ k + l) (length-part s (p + 8 * i) 8) in
+    ap (λ k. unsignedOf (part s p k)) m ∙ number-split s p (8 * i) 8 in
     let small : l < 256 = part-fits s (p + 8 * i) 8 8 (omega arith) in
     let high : (h * 256 + l) / 256 ≡ h = omega arith in
     let low : (h * 256 + l) % 256 ≡ l = omega arith in

@@ -1,5 +1,6 @@
 -- The theorems of this crate, beside the proofs of its functions.
 pub mod BitLaws
+pub mod ByteLaws
 pub mod ElementLaws
 pub mod TailLaws
 pub mod IdentifierLaws

@@ -1,6 +1,5 @@
 // The end of a payload, after its message.
 use crate::cursor::Cursor;
-use crate::element::bit;
 use crate::element::remaining;
 use crate::refusal::Refusal;
 ghost use mathlib.Core.Path.{_≡_};
@@ -13,7 +12,7 @@ pub enum Ending {
     Refused(Refusal),
 }
 
-// The end of a payload whose message ended before the cursor. The last one bit is looked for from the end.
+// The end of a payload whose message ended before the cursor. The last one bit is looked for in the final byte.
 pub fn tail(s: &[u8], c: Cursor) -> Ending
     requires { ⌜ Payload (now s) ⌝ }
     ensures { λ r. ⌜ r ≡ tailAt (now (s .entry)) (c .at) ⌝ }
@@ -23,16 +22,13 @@ pub fn tail(s: &[u8], c: Cursor) -> Ending
     if rest == 0 {
         return Ending::Extension(0);
     }
-    let mut k = rest;
-    while 0 < k {
-        k -= 1;
-        // The final byte is passed.
-        if k + 8 < rest {
-            return Ending::Refused(Refusal::Tail);
-        }
-        if bit(s, p + k) == 1 {
-            return Ending::Extension(k as u32);
-        }
+    let zeros = u8::trailing_zeros(s[s.len() - 1]) as usize;
+    // No one bit of the final byte comes after the message, or the byte has none.
+    if rest <= zeros {
+        return Ending::Refused(Refusal::Tail);
     }
-    Ending::Refused(Refusal::Tail)
+    if zeros == 8 {
+        return Ending::Refused(Refusal::Tail);
+    }
+    Ending::Extension((rest - 1 - zeros) as u32)
 }

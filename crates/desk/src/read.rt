@@ -23,9 +23,11 @@ fn part(answer: Answer, p: Payload, bytes: &[u8]) -> &[u8] {
 
 // What a payload was answered.
 pub fn shown(out: &mut [u8; ROOM], style: Style, answer: Answer, p: Payload, bytes: &[u8]) {
-    // kind 155 has the longest row
+    let outcome = answer.outcome;
+    let n = outcome.number();
+    // kind 155 has the longest row; of a refusal, 8 too, no field is shown
     let mut row = [0u64; REGION_WISE_FIELDS];
-    let n = record_row::handing::write(&mut row, answer);
+    record_row::handing::write(p.kind, p.size, bytes, &mut row);
     let part = part(answer, p, bytes);
     let asked = Asked {
         kind: p.kind,

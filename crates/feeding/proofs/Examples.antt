@@ -23,23 +23,9 @@ use Rattle.reader.specs.Reader.{answerTo}
 use Rattle.answers.specs.declared.kind.Kind.the-variants as kinds
 use Rattle.answers.specs.declared.Outcome.the-variants.{Taken, Refused}
 use Rattle.answers.specs.declared.kind.Message.the-variants.{Nothing}
-use Rattle.held.specs.Held.{
-  nothing,
-  kept,
-  noFramePacking,
-  noOrientation,
-  noEquirectangular,
-  noRotation,
-  noRegionWise,
-  keptFramePacking,
-  keptOrientation,
-  keptEquirectangular,
-  keptRotation,
-  keptRegionWise,
-  takenFramePacking,
-  withFramePacking,
-}
-use Rattle.slots.specs.Slots.{start, slotAt, withSlot, isOpen, holding, freshSlot, closedSlot, opened, pictured}
+use Rattle.held.specs.Held.{noneOf, keptOf, takenOf, nothing, kept}
+use Rattle.held.specs.Lasting.{orientation, equirectangular, rotation, regionWise}
+use Rattle.slots.specs.Slots.{refused, start, slotAt, withSlot, isOpen, holding, freshSlot, closedSlot, opening, picturing, lifted}
 use Rattle.held.specs.declared.Held.{Held}
 use Rattle.slots.specs.declared.Slots.{Slots}
 use Rattle.feeding.specs.Feed.{heldAfter, shutAnswer, fedTo}
@@ -47,13 +33,13 @@ use Rattle.feeding.specs.Feed.{heldAfter, shutAnswer, fedTo}
 -- ---- 8 comes before anything is read
 
 -- with the zeros of the kind asked for ..
-shut-orientation : fedTo start 0 47 1 (0x50 ∷ []) ≡ record { answer = refusedAs kinds.Orientation bySlot; slots = start }
-unfolding fedTo shutAnswer named start slotAt isOpen closedSlot
+shut-orientation : fedTo start 0 47 1 (0x50 ∷ []) ≡ (start, refusedAs kinds.Orientation bySlot)
+unfolding lifted shutAnswer named start slotAt withSlot isOpen closedSlot
 shut-orientation = refl
 
 -- .. also where the kind is unknown and the size too large, and where there is no such slot
-shut-unknown : fedTo start 8 46 9000 [] ≡ record { answer = plain (Refused bySlot) Nothing 0; slots = start }
-unfolding fedTo shutAnswer named start slotAt isOpen closedSlot
+shut-unknown : fedTo start 8 46 9000 [] ≡ (start, plain (Refused bySlot) Nothing 0)
+unfolding lifted shutAnswer named start slotAt withSlot isOpen closedSlot
 shut-unknown = refl
 
 -- ---- the slot of RULES 14: open, feed 81 81 00 00 00 02, picture shows it; feed 81 81 00 00 00 00, picture shows that; the next shows nothing
@@ -87,22 +73,25 @@ unfolding answerTo entryTo named readingOf whole framePacking run elementFront u
 reads-unpersisting = refl
 
 abbrev s1 : Slots
-s1 = fedTo (opened start 0 .slots) 0 45 6 (payload 2) .slots
+s1 = fedTo (lifted opening refused start 0 .0) 0 45 6 (payload 2) .0
+
+abbrev pictured : Slots → Slots × Held
+pictured s = (lifted picturing (refused, nothing) s 0 .0, lifted picturing (refused, nothing) s 0 .1 .1)
 
 abbrev s2 : Slots
-s2 = fedTo (pictured s1 0 .slots) 0 45 6 (payload 0) .slots
+s2 = fedTo (pictured s1 .0) 0 45 6 (payload 0) .0
 
 abbrev holds : FramePacking → Held
-holds x = record { «frame_packing» = record { on = 1; value = x }; orientation = noOrientation; equirectangular = noEquirectangular; rotation = noRotation; «region_wise» = noRegionWise }
+holds x = record { «frame_packing» = record { on = 1; value = x }; orientation = noneOf orientation; equirectangular = noneOf equirectangular; rotation = noneOf rotation; «region_wise» = noneOf regionWise }
 
-first-shown : pictured s1 0 .held ≡ holds (message 1)
-unfolding fedTo heldAfter opened pictured start slotAt withSlot holding isOpen freshSlot closedSlot nothing withFramePacking takenFramePacking
+first-shown : pictured s1 .1 ≡ holds (message 1)
+unfolding lifted heldAfter start slotAt withSlot holding isOpen freshSlot closedSlot nothing noneOf takenOf
 first-shown = rw reads
 
-second-shown : pictured s2 0 .held ≡ holds (message 0)
-unfolding i32 times region fedTo heldAfter opened pictured start slotAt withSlot holding isOpen freshSlot closedSlot kept nothing withFramePacking takenFramePacking noOrientation noEquirectangular noRotation noRegionWise keptFramePacking keptOrientation keptEquirectangular keptRotation keptRegionWise
+second-shown : pictured s2 .1 ≡ holds (message 0)
+unfolding i32 times region lifted heldAfter start slotAt withSlot holding isOpen freshSlot closedSlot kept nothing noneOf keptOf takenOf
 second-shown = simp (reads, reads-unpersisting)
 
-then-nothing : pictured (pictured s2 0 .slots) 0 .held ≡ nothing
-unfolding i32 times region fedTo heldAfter opened pictured start slotAt withSlot holding isOpen freshSlot closedSlot kept nothing withFramePacking takenFramePacking noFramePacking noOrientation noEquirectangular noRotation noRegionWise keptFramePacking keptOrientation keptEquirectangular keptRotation keptRegionWise
+then-nothing : pictured (pictured s2 .0) .1 ≡ nothing
+unfolding i32 times region lifted heldAfter start slotAt withSlot holding isOpen freshSlot closedSlot kept nothing noneOf keptOf takenOf
 then-nothing = simp (reads, reads-unpersisting)

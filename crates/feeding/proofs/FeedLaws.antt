@@ -1,20 +1,19 @@
--- What the layers above know of a feed: its answer, what it leaves at its slot, that it leaves the others, where it is refused with 8,
--- and that what is refused, set aside or of a kind that is not held changes no slot.
+-- What the layers above know of a feed: what its answer is and says of the held kinds, where it is refused with 8, and that what is refused,
+-- set aside or of a kind that is not held leaves a slot as it was.
 -- Assumes nothing.
 use Prim.Native.Nat.{ℕ}
 use native.Mathlib.Omega.{arith}
 use mathlib.Core.Path.{_≡_, refl, sym, ap, _∙_, subst}
-use mathlib.Core.Logic.{_≢_, _↔_, inr}
-use mathlib.Core.Bool.{Bool, true, false}
+use mathlib.Core.Logic.{_≢_, _↔_, _⊎_, inl, inr}
+use mathlib.Core.Bool.{true, false}
 use mathlib.Core.List.{List}
 use lib.ListN.{take}
-use lib.Seq.{set-getD}
 use Rattle.bits.specs.Refusals as refusals
 use Rattle.bits.specs.declared.refusal.Refusal.{Refusal}
 use Rattle.format.specs.Whole.{Reading, taken, setAside, refused}
 use Rattle.format.proofs.Whole as whole
-use Rattle.answers.specs.Listed.{Record, form, number, Unheld, named, readingOf}
-use Rattle.answers.specs.Answer.{answerNumber, answerFor}
+use Rattle.answers.specs.Listed.{Record, form, number, isHeld, Unheld, named, readingOf}
+use Rattle.answers.specs.Answer.{answerNumber, made, answerFor, unknown, refusedAs}
 use Rattle.reader.specs.Reader.{answerTo}
 use Rattle.reader.specs.Cases.{stated, Case}
 use Rattle.reader.specs.Cases as cases
@@ -24,17 +23,18 @@ use Rattle.answers.specs.declared.kind.Named.the-variants.{Listed, Unlisted}
 use Rattle.answers.specs.declared.Answer.{Answer}
 use Rattle.answers.specs.declared.Outcome.{Outcome}
 use Rattle.answers.specs.declared.Outcome.the-variants.{Taken, SetAside, Refused}
-use Rattle.answers.proofs.KindLaws.{one-kind, unheld-passes}
+use Rattle.answers.proofs.KindLaws.{one-kind, made-kind, unheld-passes}
 use Rattle.reader.proofs.Calls.{Call, unlisted, oversized, payload, call}
 use Rattle.reader.proofs.Demand2.{case}
-use Rattle.bits.specs.Choice.{if_then_else_}
-use Rattle.slots.specs.Slots.{Eight, slotAt, withSlot, isOpen, holding, Shut, ButFor, replaced}
+use Rattle.held.specs.Lasting.{Lasting, framePacking, orientation, equirectangular, rotation, regionWise, kindOf, RecordOf}
+use Rattle.held.specs.Held.{took}
 use Rattle.held.specs.declared.Held.{Held}
+use Rattle.held.proofs.LastingLaws.{unheld-apart, sort}
+use Rattle.slots.specs.Slots.{Eight, Shut, holding}
 use Rattle.slots.specs.declared.Slot.{Slot}
 use Rattle.slots.specs.declared.Slots.{Slots}
-use Rattle.slots.proofs.Laws.{apart, shut-off, replaced-slots, replaced-there, replaced-but-for}
-use Rattle.feeding.specs.declared.Fed.{Fed}
-use Rattle.feeding.specs.Feed.{heldBy, heldAfter, shutAs, shutAnswer, fedTo}
+use Rattle.slots.proofs.Laws.{either, holding-same, shut-8}
+use Rattle.feeding.specs.Feed.{heldBy, heldAfter, shutAs, shutAnswer, feeding, fedTo}
 
 -- ---- what leaves the held records
 
@@ -49,11 +49,57 @@ untaken-keeps h a = go (a .outcome)
     go (Refused r) d = refl
 
 -- nor does a kind that is not held
-pub unheld-keeps : (h : Held) (k : Kind) (x : Reading (Record k)) → Unheld k → heldAfter h (answerFor k x) ≡ h
+unheld-keeps : (h : Held) (k : Kind) (x : Reading (Record k)) → Unheld k → heldAfter h (answerFor k x) ≡ h
 unfolding heldAfter
 unheld-keeps h k (setAside a e) u = refl
 unheld-keeps h k (refused r) u = refl
 unheld-keeps h k (taken a e) u = rw (unheld-passes k a u .1)
+
+-- and of one that is held
+pub took-after : (k : Lasting) (h : Held) (a : RecordOf k) (e : ℕ) → heldAfter h (made (kindOf k) Taken a e) ≡ took k h a
+unfolding heldAfter
+took-after framePacking h a e = refl
+took-after orientation h a e = refl
+took-after equirectangular h a e = refl
+took-after rotation h a e = refl
+took-after regionWise h a e = refl
+
+-- ---- what an answer says of the five kinds that are held
+
+-- it is 0 with a message of one of them, or changes nothing and is 0 with none of them
+pub data Came (x : Answer) : Type 0 where
+  held : (j : Lasting) (b : RecordOf j) (e : ℕ) → x ≡ made (kindOf j) Taken b e → Came x
+  passed : ((h : Held) → heldAfter h x ≡ h) → ((k : Lasting) (b : RecordOf k) (e : ℕ) → x ≢ made (kindOf k) Taken b e) → Came x
+
+untaken-came : (x : Answer) → x .outcome ≢ Taken → Came x
+untaken-came x d = passed (λ h. untaken-keeps h x d) (λ k b e q. d (ap (λ (y : Answer). y .outcome) q))
+
+taken-came : (j : Kind) (b : Record j) (e : ℕ) → (isHeld (number j) ≡ false) ⊎ ((k : Lasting) × (number j ≡ number (kindOf k))) → Came (answerFor j (taken b e))
+taken-came j b e (inl u) =
+    passed (λ h. unheld-keeps h j (taken b e) u) (λ k c f q. unheld-apart j u k (ap number (made-kind j (kindOf k) Taken Taken b c e f q)))
+taken-came j b e (inr w) = subst (λ i. (c : Record i) → Came (answerFor i (taken c e))) (sym (one-kind j (kindOf (w .0)) (w .1))) (λ c. held (w .0) c e refl) b
+
+reading-came : (j : Kind) (x : Reading (Record j)) → Came (answerFor j x)
+reading-came j (setAside b e) = untaken-came _ (λ q. let z : _≡_ {A = ℕ} 0 1 = cc in omega arith)
+reading-came j (refused r) = untaken-came _ (λ q. let z : _≡_ {A = ℕ} 0 1 = cc in omega arith)
+reading-came j (taken b e) = taken-came j b e (sort (number j))
+
+pub came : (kind size : ℕ) (bytes : List ℕ) → Came (answerTo kind size bytes)
+came kind size bytes = go (call kind size bytes)
+  where
+    go : Call kind size bytes → Came (answerTo kind size bytes)
+    go (unlisted f m) = subst Came (sym m) (untaken-came unknown (λ q. let z : _≡_ {A = ℕ} 0 1 = cc in omega arith))
+    go (oversized j f o m) = subst Came (sym m) (untaken-came (refusedAs j refusals.bySize) (λ q. let z : _≡_ {A = ℕ} 0 1 = cc in omega arith))
+    go (payload j w m) = subst Came (sym m) (reading-came j (readingOf j (take size bytes)))
+
+-- no payload of a kind that is not held changes them, whatever it is answered
+pub unheld-feed : (kind size : ℕ) (bytes : List ℕ) → isHeld kind ≡ false → (h : Held) → heldAfter h (answerTo kind size bytes) ≡ h
+unheld-feed kind size bytes u h = go (call kind size bytes)
+  where
+    go : Call kind size bytes → heldAfter h (answerTo kind size bytes) ≡ h
+    go (unlisted f m) = ap (heldAfter h) m ∙ untaken-keeps h unknown (λ q. let z : _≡_ {A = ℕ} 0 1 = cc in omega arith)
+    go (oversized j f o m) = ap (heldAfter h) m ∙ untaken-keeps h (refusedAs j refusals.bySize) (λ q. let z : _≡_ {A = ℕ} 0 1 = cc in omega arith)
+    go (payload j w m) = ap (heldAfter h) m ∙ unheld-keeps h j (readingOf j (take size bytes)) (sym (ap isHeld (w .0)) ∙ u)
 
 -- ---- the number 8
 
@@ -61,9 +107,9 @@ shut-number : (x : Named) → answerNumber (shutAs x) ≡ 8
 shut-number (Listed k) = refl
 shut-number Unlisted = refl
 
-pub shut-8 : (kind : ℕ) → answerNumber (shutAnswer kind) ≡ 8
+pub shut-is-8 : (kind : ℕ) → answerNumber (shutAnswer kind) ≡ 8
 unfolding shutAnswer
-shut-8 kind = shut-number (named kind)
+shut-is-8 kind = shut-number (named kind)
 
 of-element : {r : Refusal} → refusals.OfElement r → refusals.refusalNumber r ≡ 8 → ⊥
 of-element refusals.short e = omega arith
@@ -83,68 +129,22 @@ answer-not-8 kind size bytes h = go (case kind size bytes)
     go (cases.aside k w a e d s m) = omega (arith, ap answerNumber m)
     go (cases.taken k w a e d s m) = omega (arith, ap answerNumber m)
 
--- ---- a feed replaces an open slot by what is left of it
+-- 8 exactly where there is no such slot or it is closed
+pub fed-8 : (kind size : ℕ) (bytes : List ℕ) (s : Slots) (n : ℕ) → Eight s → (answerNumber (fedTo s n kind size bytes .1) ≡ 8) ↔ Shut s n
+fed-8 kind size bytes =
+    shut-8 answerNumber (shutAnswer kind) (λ x. (holding x (heldAfter (x .held) (answerTo kind size bytes)), answerTo kind size bytes))
+    (shut-is-8 kind) (λ x. answer-not-8 kind size bytes)
 
-same-slot : (s : Slots) (n : ℕ) → withSlot s n (holding (slotAt s n) (slotAt s n .held)) ≡ s
-unfolding withSlot slotAt holding
-same-slot s n = ap (λ xs. record { slots = xs }) (set-getD (s .slots) n _)
+-- ---- what leaves the slot
 
-pub if-ap : {A B : Type 0} (f : A → B) (b : Bool) (x y : A) → f (if b then x else y) ≡ (if b then f x else f y)
-if-ap f true x y = refl
-if-ap f false x y = refl
+module _ (kind size : ℕ) (bytes : List ℕ) (x : Slot) where
+  keeps : heldAfter (x .held) (answerTo kind size bytes) ≡ x .held → feeding kind size bytes x .0 ≡ x
+  keeps k = either x _ _ (λ w. w .0 ≡ x) (λ o. ap (holding x) k ∙ holding-same x) (λ o. refl)
 
-module _ (s : Slots) (n kind size : ℕ) (bytes : List ℕ) where
-  abbrev pub left : Slot
-  left = holding (slotAt s n) (heldAfter (slotAt s n .held) (answerTo kind size bytes))
+  -- what is refused or set aside
+  pub feed-untaken : feeding kind size bytes x .1 .outcome ≢ Taken → feeding kind size bytes x .0 ≡ x
+  feed-untaken = either x _ _ (λ w. w .1 .outcome ≢ Taken → w .0 ≡ x) (λ o d. ap (holding x) (untaken-keeps (x .held) _ d) ∙ holding-same x) (λ o d. refl)
 
-  pub fed-answer : fedTo s n kind size bytes .answer ≡ (if isOpen (slotAt s n) then answerTo kind size bytes else shutAnswer kind)
-  unfolding fedTo
-  fed-answer = if-ap (λ (r : Fed). r .answer) (isOpen (slotAt s n)) _ _
-
-  pub fed-slots : fedTo s n kind size bytes .slots ≡ replaced s n left .slots
-  unfolding fedTo
-  fed-slots = if-ap (λ (r : Fed). r .slots) (isOpen (slotAt s n)) _ _ ∙ sym (replaced-slots s n left)
-
-  pub fed-there : Eight s → slotAt (fedTo s n kind size bytes .slots) n ≡ (if isOpen (slotAt s n) then left else slotAt s n)
-  fed-there e = rw fed-slots (replaced-there s n left e)
-
-  -- no other slot changes, and there are eight still
-  pub fed-but-for : ButFor n s (fedTo s n kind size bytes .slots)
-  fed-but-for = rw fed-slots (replaced-but-for s n left)
-
-  -- 8 exactly where there is no such slot or it is closed
-  pub fed-8 : Eight s → (answerNumber (fedTo s n kind size bytes .answer) ≡ 8) ↔ Shut s n
-  fed-8 e = rw fed-answer (go (isOpen (slotAt s n)) refl)
-    where
-      go : (b : Bool) → isOpen (slotAt s n) ≡ b → (answerNumber (if b then answerTo kind size bytes else shutAnswer kind) ≡ 8) ↔ Shut s n
-      go true o = (λ h. absurd (answer-not-8 kind size bytes h), λ h. absurd (apart o (shut-off s n e h)))
-      go false o = (λ h. inr o, λ h. shut-8 kind)
-
-  keeps : heldAfter (slotAt s n .held) (answerTo kind size bytes) ≡ slotAt s n .held → fedTo s n kind size bytes .slots ≡ s
-  keeps k = fed-slots ∙ replaced-slots s n left ∙ go (isOpen (slotAt s n))
-    where
-      go : (b : Bool) → (if b then withSlot s n left else s) ≡ s
-      go true = rw k (same-slot s n)
-      go false = refl
-
-  -- what is refused or set aside changes no slot
-  pub fed-untaken : fedTo s n kind size bytes .answer .outcome ≢ Taken → fedTo s n kind size bytes .slots ≡ s
-  fed-untaken d = go (isOpen (slotAt s n)) refl
-    where
-      go : (b : Bool) → isOpen (slotAt s n) ≡ b → fedTo s n kind size bytes .slots ≡ s
-      go true o = keeps (untaken-keeps _ _ (λ t. d (ap (λ (a : Answer). a .outcome) (rw o at fed-answer) ∙ t)))
-      go false o = fed-slots ∙ replaced-slots s n left ∙ rw o
-
-  -- nor does any payload of a kind that is not held, whatever it is answered
-  pub fed-unheld : (k : Kind) → kind ≡ number k → Unheld k → fedTo s n kind size bytes .slots ≡ s
-  fed-unheld k e u = go (call kind size bytes)
-    where
-      untaken : {x : Answer} → answerTo kind size bytes ≡ x → x .outcome ≢ Taken → fedTo s n kind size bytes .slots ≡ s
-      untaken m d = keeps (ap (heldAfter (slotAt s n .held)) m ∙ untaken-keeps (slotAt s n .held) _ d)
-
-      go : Call kind size bytes → fedTo s n kind size bytes .slots ≡ s
-      go (unlisted f m) = absurd (f k e)
-      go (oversized j f o m) = untaken m (λ q. let z : _≡_ {A = ℕ} 0 1 = cc in omega arith)
-      go (payload j w m) =
-          let same : k ≡ j = one-kind k j (sym e ∙ w .0) in
-          keeps (ap (heldAfter (slotAt s n .held)) m ∙ unheld-keeps (slotAt s n .held) j (readingOf j (take size bytes)) (subst Unheld same u))
+  -- any payload of a kind that is not held
+  pub feed-unheld : isHeld kind ≡ false → feeding kind size bytes x .0 ≡ x
+  feed-unheld u = keeps (unheld-feed kind size bytes u (x .held))

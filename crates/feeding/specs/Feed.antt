@@ -1,4 +1,4 @@
--- Feeding: what an answer leaves of the held records, and what a feed answers and leaves of the slots.
+-- Feeding: what an answer leaves of the held records, and what a feed answers and leaves of a slot.
 use Prim.Native.Nat.{ℕ}
 use mathlib.Core.List.{List}
 use Rattle.bits.specs.Refusals.{bySlot}
@@ -15,21 +15,21 @@ use Rattle.answers.specs.declared.kind.LastingMessage.{LastingMessage}
 use Rattle.answers.specs.declared.kind.LastingMessage.the-variants as lasting
 use Rattle.answers.specs.declared.kind.Message.{Message}
 use Rattle.answers.specs.declared.kind.Message.the-variants.{Nothing, Lasting, Passing}
-use Rattle.bits.specs.Choice.{if_then_else_}
-use Rattle.held.specs.Held.{withFramePacking, withOrientation, withEquirectangular, withRotation, withRegionWise}
-use Rattle.slots.specs.Slots.{slotAt, withSlot, isOpen, holding}
+use Rattle.held.specs.Lasting.{framePacking, orientation, equirectangular, rotation, regionWise}
+use Rattle.held.specs.Held.{took}
 use Rattle.held.specs.declared.Held.{Held}
+use Rattle.slots.specs.Slots.{holding, whenOpen, lifted}
+use Rattle.slots.specs.declared.Slot.{Slot}
 use Rattle.slots.specs.declared.Slots.{Slots}
-use Rattle.feeding.specs.declared.Fed.{Fed}
 
--- "kinds 45, 47, 150, 154 and 155 are held, one of each: a taken message replaces the held one", and the others are not;
+-- a taken message of a kind that is held replaces the held one, and any other is not held;
 -- p is the record of kind 155 that stands beside the message
 abbrev pub heldLasting : Held → LastingMessage → RegionWise → Held
-heldLasting h (lasting.FramePacking x) p = withFramePacking h x
-heldLasting h (lasting.Orientation x) p = withOrientation h x
-heldLasting h (lasting.Equirectangular x) p = withEquirectangular h x
-heldLasting h (lasting.Rotation x) p = withRotation h x
-heldLasting h lasting.RegionWise p = withRegionWise h p
+heldLasting h (lasting.FramePacking x) p = took framePacking h x
+heldLasting h (lasting.Orientation x) p = took orientation h x
+heldLasting h (lasting.Equirectangular x) p = took equirectangular h x
+heldLasting h (lasting.Rotation x) p = took rotation h x
+heldLasting h lasting.RegionWise p = took regionWise h p
 
 abbrev pub heldWith : Held → Message → RegionWise → Held
 heldWith h (Lasting m) p = heldLasting h m p
@@ -53,15 +53,12 @@ shutAs Unlisted = plain (Refused bySlot) Nothing 0
 unfoldable pub shutAnswer : ℕ → Answer
 shutAnswer kind = shutAs (named kind)
 
--- 8, and every slot stays
-abbrev pub shutTo : Slots → ℕ → Fed
-shutTo s kind = record { answer = shutAnswer kind; slots = s }
-
--- 8, else the reader's answer and what it leaves
-unfoldable pub fedTo : Slots → ℕ → ℕ → ℕ → List ℕ → Fed
-fedTo s n kind size bytes =
-    let here = slotAt s n in
+-- on one slot: 8, else the reader's answer and what it leaves
+abbrev pub feeding : ℕ → ℕ → List ℕ → Slot → Slot × Answer
+feeding kind size bytes x =
     let answer = answerTo kind size bytes in
-    if isOpen here
-    then record { answer = answer; slots = withSlot s n (holding here (heldAfter (here .held) answer)) }
-    else shutTo s kind
+    whenOpen x (shutAnswer kind) (holding x (heldAfter (x .held) answer), answer)
+
+-- on slot n of the eight
+abbrev pub fedTo : Slots → ℕ → ℕ → ℕ → List ℕ → Slots × Answer
+fedTo s n kind size bytes = lifted (feeding kind size bytes) (shutAnswer kind) s n

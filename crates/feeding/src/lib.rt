@@ -1,4 +1,6 @@
 // A payload goes into a slot.
+pub mod filling;
+
 use answers::Answer;
 use answers::Outcome;
 use answers::kind::LastingMessage;
@@ -8,9 +10,10 @@ use bits::refusal::Refusal;
 use held::Held;
 use kind_region_wise::RegionWise;
 use reader::payload;
+use slots::Slot;
 use slots::Slots;
 ghost use mathlib.Core.Path.{_≡_};
-ghost use Rattle.feeding.specs.Feed.{heldLasting, heldWith, heldBy, shutAnswer, shutTo, fedTo};
+ghost use Rattle.feeding.specs.Feed.{heldLasting, heldWith, heldBy, shutAnswer, feeding, fedTo};
 
 // What a taken message leaves of the held records, where its kind is held; the record of kind 155 stands beside its message.
 fn held_lasting(held: Held, lasting: LastingMessage, region_wise: RegionWise) -> Held
@@ -57,31 +60,16 @@ fn shut(kind: u64) -> Answer
     Answer::refused(k, Refusal::slot())
 }
 
-// The reader's answer, and the slots after it.
-pub struct Fed {
+// The reader's answer, and the slot after it.
+pub struct FedSlot {
     pub answer: Answer,
-    pub slots: Slots,
+    pub slot: Slot,
 }
 
-// Refusal 8: every slot stays.
-fn refused(slots: Slots, kind: u64) -> Fed
-    ensures { λ r. ⌜ r ≡ shutTo slots kind ⌝ }
+// The slot is judged before anything is read.
+pub fn feed_slot(here: Slot, kind: u64, size: u64, bytes: &[u8]) -> FedSlot
+    ensures { λ r. ⌜ (r .slot, r .answer) ≡ feeding kind size (now (bytes .entry)) here ⌝ }
 {
-    Fed {
-        answer: shut(kind),
-        slots,
-    }
-}
-
-// The slot is judged before anything is read. It is read and replaced in place: each call that takes the eight copies them.
-pub fn feed(mut slots: Slots, n: u64, kind: u64, size: u64, bytes: &[u8]) -> Fed
-    ensures { λ r. ⌜ r ≡ fedTo slots n kind size (now (bytes .entry)) ⌝ }
-{
-    if 8 <= n {
-        return refused(slots, kind);
-    }
-    let at = n as usize;
-    let here = slots.slots[at];
     if here.is_open() {
         let answer = payload::read(kind, size, bytes);
         let held = here.held;
@@ -89,8 +77,35 @@ pub fn feed(mut slots: Slots, n: u64, kind: u64, size: u64, bytes: &[u8]) -> Fed
         let message = answer.message;
         let region_wise = answer.beside.region_wise;
         let left = held_by(held, outcome, message, region_wise);
-        slots.slots[at] = here.holding(left);
+        return FedSlot {
+            answer,
+            slot: here.holding(left),
+        };
+    }
+    FedSlot {
+        answer: shut(kind),
+        slot: here,
+    }
+}
+
+// The reader's answer, and the slots after it.
+pub struct Fed {
+    pub answer: Answer,
+    pub slots: Slots,
+}
+
+pub fn feed(mut slots: Slots, n: u64, kind: u64, size: u64, bytes: &[u8]) -> Fed
+    ensures { λ r. ⌜ (r .slots, r .answer) ≡ fedTo slots n kind size (now (bytes .entry)) ⌝ }
+{
+    if 8 <= n {
+        let answer = shut(kind);
         return Fed { answer, slots };
     }
-    refused(slots, kind)
+    let at = n as usize;
+    let here = slots.slots[at];
+    let fed = feed_slot(here, kind, size, bytes);
+    let answer = fed.answer;
+    let left = fed.slot;
+    slots.slots[at] = left;
+    Fed { answer, slots }
 }

@@ -1,110 +1,57 @@
--- What a slot holds: of each of five kinds one record, or nothing.
+-- What a slot holds, of each of the five kinds one record or nothing; and what a message and a picture leave of it, said once over the kinds.
 use lib.Dec.{eqb}
 use Rattle.bits.specs.Choice.{if_then_else_}
-use Rattle.format.specs.Format.{zeros}
-use Rattle.kind_frame_packing.specs.declared.FramePacking.{FramePacking}
-use Rattle.kind_frame_packing.specs.FramePacking as frame-packing
-use Rattle.kind_orientation.specs.declared.Orientation.{Orientation}
-use Rattle.kind_orientation.specs.Orientation as orientation
-use Rattle.kind_equirectangular.specs.declared.Equirectangular.{Equirectangular}
-use Rattle.kind_equirectangular.specs.Equirectangular as equirectangular
-use Rattle.kind_rotation.specs.declared.Rotation.{Rotation}
-use Rattle.kind_rotation.specs.Rotation as rotation
-use Rattle.kind_region_wise.specs.declared.RegionWise.{RegionWise}
-use Rattle.kind_region_wise.specs.RegionWise as region-wise
-use Rattle.held.specs.declared.HeldFramePacking.{HeldFramePacking}
-use Rattle.held.specs.declared.HeldOrientation.{HeldOrientation}
-use Rattle.held.specs.declared.HeldEquirectangular.{HeldEquirectangular}
-use Rattle.held.specs.declared.HeldRotation.{HeldRotation}
-use Rattle.held.specs.declared.HeldRegionWise.{HeldRegionWise}
+use Rattle.answers.specs.Listed.{zeros}
+use Rattle.held.specs.Lasting.{Lasting, framePacking, orientation, equirectangular, rotation, regionWise, kindOf, RecordOf, cancelOf, persistenceOf, HeldOf, marked, valueOf}
 use Rattle.held.specs.declared.Held.{Held}
 
--- ---- nothing: zeros, and the mark that tells it from a message of zeros
+-- ---- of one kind
 
-unfoldable pub noFramePacking : HeldFramePacking
-noFramePacking = record { on = 0; value = zeros frame-packing.table }
+-- nothing: zeros, and the mark that tells it from a message of zeros
+unfoldable pub noneOf : (k : Lasting) → HeldOf k
+noneOf k = marked k 0 (zeros (kindOf k))
 
-unfoldable pub noOrientation : HeldOrientation
-noOrientation = record { on = 0; value = zeros orientation.table }
+-- "a taken message replaces the held one, a cancel leaves nothing"
+unfoldable pub takenOf : (k : Lasting) → RecordOf k → HeldOf k
+takenOf k a = if eqb (cancelOf k a) 0 then marked k 1 a else noneOf k
 
-unfoldable pub noEquirectangular : HeldEquirectangular
-noEquirectangular = record { on = 0; value = zeros equirectangular.table }
+-- a picture call "drops each whose persistence flag is 0"
+unfoldable pub keptOf : (k : Lasting) → HeldOf k → HeldOf k
+keptOf k h = if eqb (persistenceOf k (valueOf k h)) 0 then noneOf k else h
 
-unfoldable pub noRotation : HeldRotation
-noRotation = record { on = 0; value = zeros rotation.table }
+-- ---- of all five
 
-unfoldable pub noRegionWise : HeldRegionWise
-noRegionWise = record { on = 0; value = zeros region-wise.table }
+abbrev pub five : ((k : Lasting) → HeldOf k) → Held
+five f =
+    record {
+      «frame_packing» = f framePacking;
+      orientation = f orientation;
+      equirectangular = f equirectangular;
+      rotation = f rotation;
+      «region_wise» = f regionWise;
+    }
 
--- ---- "a taken message replaces the held one, a cancel leaves nothing"
-
-unfoldable pub takenFramePacking : FramePacking → HeldFramePacking
-takenFramePacking x = if eqb (x .«fp_arrangement_cancel_flag») 0 then record { on = 1; value = x } else noFramePacking
-
-unfoldable pub takenOrientation : Orientation → HeldOrientation
-takenOrientation x = if eqb (x .«display_orientation_cancel_flag») 0 then record { on = 1; value = x } else noOrientation
-
-unfoldable pub takenEquirectangular : Equirectangular → HeldEquirectangular
-takenEquirectangular x = if eqb (x .«erp_cancel_flag») 0 then record { on = 1; value = x } else noEquirectangular
-
-unfoldable pub takenRotation : Rotation → HeldRotation
-takenRotation x = if eqb (x .«sphere_rotation_cancel_flag») 0 then record { on = 1; value = x } else noRotation
-
-unfoldable pub takenRegionWise : RegionWise → HeldRegionWise
-takenRegionWise x = if eqb (x .«rwp_cancel_flag») 0 then record { on = 1; value = x } else noRegionWise
-
--- ---- a picture call "drops each whose persistence flag is 0"
-
-unfoldable pub keptFramePacking : HeldFramePacking → HeldFramePacking
-keptFramePacking h = if eqb (h .value .layout .«fp_arrangement_persistence_flag») 0 then noFramePacking else h
-
-unfoldable pub keptOrientation : HeldOrientation → HeldOrientation
-keptOrientation h = if eqb (h .value .«display_orientation_persistence_flag») 0 then noOrientation else h
-
-unfoldable pub keptEquirectangular : HeldEquirectangular → HeldEquirectangular
-keptEquirectangular h = if eqb (h .value .«erp_persistence_flag») 0 then noEquirectangular else h
-
-unfoldable pub keptRotation : HeldRotation → HeldRotation
-keptRotation h = if eqb (h .value .«sphere_rotation_persistence_flag») 0 then noRotation else h
-
-unfoldable pub keptRegionWise : HeldRegionWise → HeldRegionWise
-keptRegionWise h = if eqb (h .value .«rwp_persistence_flag») 0 then noRegionWise else h
-
--- ---- all five
+abbrev pub heldOf : (k : Lasting) → Held → HeldOf k
+heldOf framePacking h = h .«frame_packing»
+heldOf orientation h = h .orientation
+heldOf equirectangular h = h .equirectangular
+heldOf rotation h = h .rotation
+heldOf regionWise h = h .«region_wise»
 
 unfoldable pub nothing : Held
-nothing =
-    record {
-      «frame_packing» = noFramePacking;
-      orientation = noOrientation;
-      equirectangular = noEquirectangular;
-      rotation = noRotation;
-      «region_wise» = noRegionWise;
-    }
+nothing = five noneOf
 
 unfoldable pub kept : Held → Held
-kept h =
-    record {
-      «frame_packing» = keptFramePacking (h .«frame_packing»);
-      orientation = keptOrientation (h .orientation);
-      equirectangular = keptEquirectangular (h .equirectangular);
-      rotation = keptRotation (h .rotation);
-      «region_wise» = keptRegionWise (h .«region_wise»);
-    }
+kept h = five (λ k. keptOf k (heldOf k h))
 
--- ---- the held records after a taken message
+-- the five, but of kind k another
+abbrev pub replaced : (k : Lasting) → Held → HeldOf k → Held
+replaced framePacking h x = record { «frame_packing» = x; orientation = h .orientation; equirectangular = h .equirectangular; rotation = h .rotation; «region_wise» = h .«region_wise» }
+replaced orientation h x = record { «frame_packing» = h .«frame_packing»; orientation = x; equirectangular = h .equirectangular; rotation = h .rotation; «region_wise» = h .«region_wise» }
+replaced equirectangular h x = record { «frame_packing» = h .«frame_packing»; orientation = h .orientation; equirectangular = x; rotation = h .rotation; «region_wise» = h .«region_wise» }
+replaced rotation h x = record { «frame_packing» = h .«frame_packing»; orientation = h .orientation; equirectangular = h .equirectangular; rotation = x; «region_wise» = h .«region_wise» }
+replaced regionWise h x = record { «frame_packing» = h .«frame_packing»; orientation = h .orientation; equirectangular = h .equirectangular; rotation = h .rotation; «region_wise» = x }
 
-unfoldable pub withFramePacking : Held → FramePacking → Held
-withFramePacking h x = record { «frame_packing» = takenFramePacking x; orientation = h .orientation; equirectangular = h .equirectangular; rotation = h .rotation; «region_wise» = h .«region_wise» }
-
-unfoldable pub withOrientation : Held → Orientation → Held
-withOrientation h x = record { «frame_packing» = h .«frame_packing»; orientation = takenOrientation x; equirectangular = h .equirectangular; rotation = h .rotation; «region_wise» = h .«region_wise» }
-
-unfoldable pub withEquirectangular : Held → Equirectangular → Held
-withEquirectangular h x = record { «frame_packing» = h .«frame_packing»; orientation = h .orientation; equirectangular = takenEquirectangular x; rotation = h .rotation; «region_wise» = h .«region_wise» }
-
-unfoldable pub withRotation : Held → Rotation → Held
-withRotation h x = record { «frame_packing» = h .«frame_packing»; orientation = h .orientation; equirectangular = h .equirectangular; rotation = takenRotation x; «region_wise» = h .«region_wise» }
-
-unfoldable pub withRegionWise : Held → RegionWise → Held
-withRegionWise h x = record { «frame_packing» = h .«frame_packing»; orientation = h .orientation; equirectangular = h .equirectangular; rotation = h .rotation; «region_wise» = takenRegionWise x }
+-- after a taken message of kind k
+abbrev pub took : (k : Lasting) → Held → RecordOf k → Held
+took k h a = replaced k h (takenOf k a)

@@ -6,30 +6,11 @@ use kind_orientation::Orientation;
 use kind_region_wise::RegionWise;
 use kind_rotation::Rotation;
 ghost use mathlib.Core.Path.{_≡_};
-ghost use Rattle.held.specs.Held.{
-  noFramePacking,
-  takenFramePacking,
-  keptFramePacking,
-  noOrientation,
-  takenOrientation,
-  keptOrientation,
-  noEquirectangular,
-  takenEquirectangular,
-  keptEquirectangular,
-  noRotation,
-  takenRotation,
-  keptRotation,
-  noRegionWise,
-  takenRegionWise,
-  keptRegionWise,
-  nothing,
-  kept,
-  withFramePacking,
-  withOrientation,
-  withEquirectangular,
-  withRotation,
-  withRegionWise,
-};
+ghost use lib.Dec.{eqb};
+ghost use Rattle.bits.specs.Choice.{if_then_else_};
+ghost use Rattle.kind_region_wise.specs.RegionWise.{BareCancel};
+ghost use Rattle.held.specs.Lasting.{framePacking, orientation, equirectangular, rotation, regionWise};
+ghost use Rattle.held.specs.Held.{noneOf, takenOf, keptOf, nothing, kept, took};
 
 // on is 1 where a record is held, here and below. A record of zeros is a message too, so nothing has a mark of its own.
 #[repr(C)]
@@ -39,15 +20,15 @@ pub struct HeldFramePacking {
 }
 
 impl HeldFramePacking {
-    fn nothing() -> HeldFramePacking
-        ensures { λ r. ⌜ r ≡ noFramePacking ⌝ }
+    pub fn nothing() -> HeldFramePacking
+        ensures { λ r. ⌜ r ≡ noneOf framePacking ⌝ }
     {
         let value = FramePacking::zero();
         HeldFramePacking { on: 0, value }
     }
 
-    fn taken(x: FramePacking) -> HeldFramePacking
-        ensures { λ r. ⌜ r ≡ takenFramePacking x ⌝ }
+    pub fn taken(x: FramePacking) -> HeldFramePacking
+        ensures { λ r. ⌜ r ≡ takenOf framePacking x ⌝ }
     {
         if x.fp_arrangement_cancel_flag != 0 {
             return HeldFramePacking::nothing();
@@ -56,7 +37,7 @@ impl HeldFramePacking {
     }
 
     fn kept(self) -> HeldFramePacking
-        ensures { λ r. ⌜ r ≡ keptFramePacking self ⌝ }
+        ensures { λ r. ⌜ r ≡ keptOf framePacking self ⌝ }
     {
         if self.value.layout.fp_arrangement_persistence_flag == 0 {
             return HeldFramePacking::nothing();
@@ -72,15 +53,15 @@ pub struct HeldOrientation {
 }
 
 impl HeldOrientation {
-    fn nothing() -> HeldOrientation
-        ensures { λ r. ⌜ r ≡ noOrientation ⌝ }
+    pub fn nothing() -> HeldOrientation
+        ensures { λ r. ⌜ r ≡ noneOf orientation ⌝ }
     {
         let value = Orientation::zero();
         HeldOrientation { on: 0, value }
     }
 
-    fn taken(x: Orientation) -> HeldOrientation
-        ensures { λ r. ⌜ r ≡ takenOrientation x ⌝ }
+    pub fn taken(x: Orientation) -> HeldOrientation
+        ensures { λ r. ⌜ r ≡ takenOf orientation x ⌝ }
     {
         if x.display_orientation_cancel_flag != 0 {
             return HeldOrientation::nothing();
@@ -89,7 +70,7 @@ impl HeldOrientation {
     }
 
     fn kept(self) -> HeldOrientation
-        ensures { λ r. ⌜ r ≡ keptOrientation self ⌝ }
+        ensures { λ r. ⌜ r ≡ keptOf orientation self ⌝ }
     {
         if self.value.display_orientation_persistence_flag == 0 {
             return HeldOrientation::nothing();
@@ -105,15 +86,15 @@ pub struct HeldEquirectangular {
 }
 
 impl HeldEquirectangular {
-    fn nothing() -> HeldEquirectangular
-        ensures { λ r. ⌜ r ≡ noEquirectangular ⌝ }
+    pub fn nothing() -> HeldEquirectangular
+        ensures { λ r. ⌜ r ≡ noneOf equirectangular ⌝ }
     {
         let value = Equirectangular::zero();
         HeldEquirectangular { on: 0, value }
     }
 
-    fn taken(x: Equirectangular) -> HeldEquirectangular
-        ensures { λ r. ⌜ r ≡ takenEquirectangular x ⌝ }
+    pub fn taken(x: Equirectangular) -> HeldEquirectangular
+        ensures { λ r. ⌜ r ≡ takenOf equirectangular x ⌝ }
     {
         if x.erp_cancel_flag != 0 {
             return HeldEquirectangular::nothing();
@@ -122,7 +103,7 @@ impl HeldEquirectangular {
     }
 
     fn kept(self) -> HeldEquirectangular
-        ensures { λ r. ⌜ r ≡ keptEquirectangular self ⌝ }
+        ensures { λ r. ⌜ r ≡ keptOf equirectangular self ⌝ }
     {
         if self.value.erp_persistence_flag == 0 {
             return HeldEquirectangular::nothing();
@@ -138,15 +119,15 @@ pub struct HeldRotation {
 }
 
 impl HeldRotation {
-    fn nothing() -> HeldRotation
-        ensures { λ r. ⌜ r ≡ noRotation ⌝ }
+    pub fn nothing() -> HeldRotation
+        ensures { λ r. ⌜ r ≡ noneOf rotation ⌝ }
     {
         let value = Rotation::zero();
         HeldRotation { on: 0, value }
     }
 
-    fn taken(x: Rotation) -> HeldRotation
-        ensures { λ r. ⌜ r ≡ takenRotation x ⌝ }
+    pub fn taken(x: Rotation) -> HeldRotation
+        ensures { λ r. ⌜ r ≡ takenOf rotation x ⌝ }
     {
         if x.sphere_rotation_cancel_flag != 0 {
             return HeldRotation::nothing();
@@ -155,13 +136,23 @@ impl HeldRotation {
     }
 
     fn kept(self) -> HeldRotation
-        ensures { λ r. ⌜ r ≡ keptRotation self ⌝ }
+        ensures { λ r. ⌜ r ≡ keptOf rotation self ⌝ }
     {
         if self.value.sphere_rotation_persistence_flag == 0 {
             return HeldRotation::nothing();
         }
         self
     }
+}
+
+// What the mark becomes by a message with this cancel flag.
+fn mark(cancel: u8) -> u8
+    ensures { λ r. ⌜ r ≡ (if eqb cancel 0 then 1 else 0) ⌝ }
+{
+    if cancel != 0 {
+        return 0;
+    }
+    1
 }
 
 #[repr(C)]
@@ -171,15 +162,15 @@ pub struct HeldRegionWise {
 }
 
 impl HeldRegionWise {
-    fn nothing() -> HeldRegionWise
-        ensures { λ r. ⌜ r ≡ noRegionWise ⌝ }
+    pub fn nothing() -> HeldRegionWise
+        ensures { λ r. ⌜ r ≡ noneOf regionWise ⌝ }
     {
         let value = RegionWise::zero();
         HeldRegionWise { on: 0, value }
     }
 
     fn taken(x: RegionWise) -> HeldRegionWise
-        ensures { λ r. ⌜ r ≡ takenRegionWise x ⌝ }
+        ensures { λ r. ⌜ r ≡ takenOf regionWise x ⌝ }
     {
         if x.rwp_cancel_flag != 0 {
             return HeldRegionWise::nothing();
@@ -187,8 +178,19 @@ impl HeldRegionWise {
         HeldRegionWise { on: 1, value: x }
     }
 
+    // The same of a message as it is coded: a cancel is its flag and nothing else, so that there are no two records to choose from, and no
+    // copy of either.
+    pub fn coded(mut x: RegionWise) -> HeldRegionWise
+        requires { ⌜ BareCancel x ⌝ }
+        ensures { λ r. ⌜ r ≡ takenOf regionWise x ⌝ }
+    {
+        let on = mark(x.rwp_cancel_flag);
+        x.rwp_cancel_flag = 0;
+        HeldRegionWise { on, value: x }
+    }
+
     fn kept(self) -> HeldRegionWise
-        ensures { λ r. ⌜ r ≡ keptRegionWise self ⌝ }
+        ensures { λ r. ⌜ r ≡ keptOf regionWise self ⌝ }
     {
         if self.value.rwp_persistence_flag == 0 {
             return HeldRegionWise::nothing();
@@ -237,35 +239,35 @@ impl Held {
     }
 
     pub fn with_frame_packing(mut self, x: FramePacking) -> Held
-        ensures { λ r. ⌜ r ≡ withFramePacking self x ⌝ }
+        ensures { λ r. ⌜ r ≡ took framePacking self x ⌝ }
     {
         self.frame_packing = HeldFramePacking::taken(x);
         self
     }
 
     pub fn with_orientation(mut self, x: Orientation) -> Held
-        ensures { λ r. ⌜ r ≡ withOrientation self x ⌝ }
+        ensures { λ r. ⌜ r ≡ took orientation self x ⌝ }
     {
         self.orientation = HeldOrientation::taken(x);
         self
     }
 
     pub fn with_equirectangular(mut self, x: Equirectangular) -> Held
-        ensures { λ r. ⌜ r ≡ withEquirectangular self x ⌝ }
+        ensures { λ r. ⌜ r ≡ took equirectangular self x ⌝ }
     {
         self.equirectangular = HeldEquirectangular::taken(x);
         self
     }
 
     pub fn with_rotation(mut self, x: Rotation) -> Held
-        ensures { λ r. ⌜ r ≡ withRotation self x ⌝ }
+        ensures { λ r. ⌜ r ≡ took rotation self x ⌝ }
     {
         self.rotation = HeldRotation::taken(x);
         self
     }
 
     pub fn with_region_wise(mut self, x: RegionWise) -> Held
-        ensures { λ r. ⌜ r ≡ withRegionWise self x ⌝ }
+        ensures { λ r. ⌜ r ≡ took regionWise self x ⌝ }
     {
         self.region_wise = HeldRegionWise::taken(x);
         self

@@ -1,34 +1,30 @@
 -- Each entry's contract determines its answer, the slots that it hands back, and what it was lent as it leaves it.
 -- Assumes nothing.
 use Prim.Native.Nat.{ℕ}
-use mathlib.Core.Path.{sym, _∙_}
+use mathlib.Core.Path.{_≡_, sym, ap, _∙_}
 use mathlib.Core.List.{List}
 use contract.Lifetimes.{Lfts}
 use denote.Ref.{now}
 use denote.Triple.Clauses.{AtExit}
 use borrow.Fn.Kinds.{endedOf}
 use Rattle.bits.proofs.Determined.{Determines, DeterminesAll}
+use Rattle.lent.specs.Lent.{left}
 use Rattle.lent.proofs.Stores.{same-left}
+use Rattle.held.specs.declared.Held.{Held}
+use Rattle.slots.specs.declared.Slots.{Slots}
+use Rattle.region_table.specs.Rows.{Table, wrote}
+use Rattle.isolation.specs.Runs.{Call}
+use Rattle.host.specs.Slot.{leftInNumbers}
+use Rattle.host.specs.Seen.{Seen, called, fed, pictured, cStep}
+use Rattle.host.specs.declared.slot.Tabled.{Tabled}
 use Rattle.host.proofs.bruskelde_read.Kinds as read-kinds
 use Rattle.host.proofs.bruskelde_read.Reads as read-reads
 use Rattle.host.proofs.bruskelde_fields.Kinds as fields-kinds
 use Rattle.host.proofs.bruskelde_fields.Reads as fields-reads
 use Rattle.host.proofs.bruskelde_part.Kinds as part-kinds
 use Rattle.host.proofs.bruskelde_part.Reads as part-reads
-use Rattle.host.proofs.slot.bruskelde_start.Kinds as start-kinds
-use Rattle.host.proofs.slot.bruskelde_start.Reads as start-reads
-use Rattle.host.proofs.slot.bruskelde_open.Kinds as open-kinds
-use Rattle.host.proofs.slot.bruskelde_open.Reads as open-reads
-use Rattle.host.proofs.slot.bruskelde_close.Kinds as close-kinds
-use Rattle.host.proofs.slot.bruskelde_close.Reads as close-reads
-use Rattle.host.proofs.slot.bruskelde_sequence.Kinds as sequence-kinds
-use Rattle.host.proofs.slot.bruskelde_sequence.Reads as sequence-reads
-use Rattle.host.proofs.slot.bruskelde_feed.Kinds as feed-kinds
-use Rattle.host.proofs.slot.bruskelde_feed.Reads as feed-reads
-use Rattle.host.proofs.slot.bruskelde_picture.Kinds as picture-kinds
-use Rattle.host.proofs.slot.bruskelde_picture.Reads as picture-reads
-use Rattle.host.proofs.slot.bruskelde_table.Kinds as table-kinds
-use Rattle.host.proofs.slot.bruskelde_table.Reads as table-reads
+use Rattle.host.proofs.slot.bruskelde_slots_size.Kinds as slots-size-kinds
+use Rattle.host.proofs.slot.bruskelde_slots_size.Reads as slots-size-reads
 
 pub read-determined : Determines 1 read-kinds.ps read-kinds.r read-reads.Post
 read-determined κs a x y s t p q = p ∙ sym q
@@ -43,27 +39,28 @@ fields-determined κs a x y s t p q = same-left (p ∙ sym q)
 pub part-determined : Determines 1 part-kinds.ps part-kinds.r part-reads.Post
 part-determined κs a x y s t p q = p ∙ sym q
 
-pub start-determined : Determines 0 start-kinds.ps start-kinds.r start-reads.Post
-start-determined κs a x y s t p q = p ∙ sym q
+pub slots-size-determined : Determines 0 slots-size-kinds.ps slots-size-kinds.r slots-size-reads.Post
+slots-size-determined κs a x y s t p q = p ∙ sym q
 
-pub open-determined : Determines 0 open-kinds.ps open-kinds.r open-reads.Post
-open-determined κs a x y s t p q = p ∙ sym q
+-- ---- the entries that change the slots in place
 
-pub close-determined : Determines 0 close-kinds.ps close-kinds.r close-reads.Post
-close-determined κs a x y s t p q = p ∙ sym q
+-- Of these the check makes no `Post`. An entry's proof is of the contract as the source has it, and ends in one of the equations here, so it
+-- is these that have to determine the answer, all eight slots, and what is shown or written. `bruskelde_start` says the slots outright.
+module _ (s : Slots) (c : Call) where
+  pub called-determined : {t u : Slots} {n m : ℕ} → (t, called n) ≡ cStep s c → (u, called m) ≡ cStep s c → (t ≡ u) × (n ≡ m)
+  called-determined p q =
+      let e : called _ ≡ called _ = ap (λ (w : Slots × Seen). w .1) (p ∙ sym q) in
+      (ap (λ (w : Slots × Seen). w .0) (p ∙ sym q), cc)
 
-pub sequence-determined : Determines 0 sequence-kinds.ps sequence-kinds.r sequence-reads.Post
-sequence-determined κs a x y s t p q = p ∙ sym q
+  pub fed-determined : {t u : Slots} {n m e d : ℕ} → (t, fed n e) ≡ cStep s c → (u, fed m d) ≡ cStep s c → (t ≡ u) × ((n ≡ m) × (e ≡ d))
+  fed-determined p q =
+      let e : fed _ _ ≡ fed _ _ = ap (λ (w : Slots × Seen). w .1) (p ∙ sym q) in
+      (ap (λ (w : Slots × Seen). w .0) (p ∙ sym q), (cc, cc))
 
-pub feed-determined : Determines 1 feed-kinds.ps feed-kinds.r feed-reads.Post
-feed-determined κs a x y s t p q = p ∙ sym q
+  pub pictured-determined : {t u : Slots} {n m : ℕ} {h g : Held} → (t, pictured n h) ≡ cStep s c → (u, pictured m g) ≡ cStep s c → (t ≡ u) × ((n ≡ m) × (h ≡ g))
+  pictured-determined p q =
+      let e : pictured _ _ ≡ pictured _ _ = ap (λ (w : Slots × Seen). w .1) (p ∙ sym q) in
+      (ap (λ (w : Slots × Seen). w .0) (p ∙ sym q), (cc, cc))
 
-pub picture-determined : Determines 0 picture-kinds.ps picture-kinds.r picture-reads.Post
-picture-determined κs a x y s t p q = p ∙ sym q
-
--- the third parameter, at exit
-abbrev pub lent : (κs : Lfts 1) → AtExit (endedOf 1 table-kinds.ps table-kinds.r) κs → List ℕ
-lent κs s = now (s .1 .1 .0)
-
-pub table-determined : DeterminesAll 1 table-kinds.ps table-kinds.r lent table-reads.Post
-table-determined κs a x y s t p q = same-left (p ∙ sym q)
+pub table-determined : (t : Table) (lent : List ℕ) {x y : Tabled} {k l : List ℕ} → left x k ≡ leftInNumbers (wrote t lent) → left y l ≡ leftInNumbers (wrote t lent) → (x ≡ y) × (k ≡ l)
+table-determined t lent p q = same-left (p ∙ sym q)

@@ -3,7 +3,7 @@
 use Prim.Native.Nat.{ℕ, _≤_, _<_}
 use mathlib.Core.Path.{_≡_, refl, sym, ap, _∙_}
 use mathlib.Core.Bool.{Bool, true, false}
-use mathlib.Core.List.{List, [], _∷_}
+use mathlib.Core.List.{List, _∷_}
 use lib.Dec.{leb}
 use lib.ListN.{length, take, drop}
 use Rattle.bits.specs.Choice.{if_then_else_}
@@ -15,41 +15,45 @@ use Rattle.answers.specs.declared.Outcome.{Outcome}
 use Rattle.answers.specs.declared.Outcome.the-variants.{Taken, SetAside, Refused}
 use Rattle.reader.specs.Reader.{answerTo}
 use Rattle.reader.proofs.Local.{local}
-use Rattle.slots.specs.Slots.{Eight}
+use Rattle.runs.specs.Cell.{Cell}
+use Rattle.runs.proofs.Cells.{isolated}
+use Rattle.slots.specs.Slots.{Eight, freshSlot, slotAt}
+use Rattle.slots.specs.declared.Slot.{Slot}
 use Rattle.slots.specs.declared.Slots.{Slots}
-use Rattle.isolation.specs.Runs.{Call, opens, Reply, said, shown, read, tabled, repliesAt, only, unextended, blind, blinds}
-use Rattle.isolation.specs.Pairs.{VariedPayload, Pairs}
-use Rattle.isolation.proofs.PairLaws.{varied-answer}
-use Rattle.isolation.proofs.Isolation.{isolated}
+use Rattle.isolation.specs.Runs.{Call, opens, Reply, said, shown, read, tabled, turn, on, only, unextended, blind}
+use Rattle.isolation.specs.Pairs.{VariedPayload, Pair, Pairs}
+use Rattle.isolation.proofs.OneCall.{slot}
+use Rattle.isolation.proofs.PairLaws.{varied-answer, like}
 use Rattle.record_row.specs.Fields.{recordFields}
 use Rattle.record_row.specs.Handing.{fieldsOf, handedOver, wroteBy, wroteFields}
 use Rattle.host.specs.Part.{partAt, partOf}
-use Rattle.host.specs.Seen.{seen, allSeen, blindly, allBlindly, SeenIsolated, SameButFirst}
+use Rattle.host.specs.Seen.{seen, called, cStep, cTurn, blindly, SeenIsolated, SameButFirst}
 
 -- ---- demand 3
 
 blind-seen : (r : Reply) → blindly (seen r) ≡ seen (blind r)
 blind-seen (said a) = refl
-blind-seen (shown a h) = refl
+blind-seen (shown w) = refl
 blind-seen (read a) = refl
 blind-seen (tabled t) = refl
 
-blinds-seen : (rs : List Reply) → allBlindly (allSeen rs) ≡ allSeen (blinds rs)
-blinds-seen [] = refl
-blinds-seen (r ∷ rs) = rw (blind-seen r, blinds-seen rs)
+-- slot k is a cell of what C calls
+seen-slot : (k : ℕ) → k < 8 → Cell cStep cTurn Eight (on k) (λ s. slotAt s k)
+seen-slot k h =
+    record {
+      keeps = slot k h .keeps;
+      own = λ s c e a. ap (λ (w : Slot × Reply). (w .0, seen (w .1))) (slot k h .own s c e a);
+      other = slot k h .other;
+    }
+
+seen-like : {c d : Call} → Pair c d → (x : Slot) → (cTurn x c .0 ≡ cTurn x d .0) × (blindly (cTurn x c .1) ≡ blindly (cTurn x d .1))
+seen-like {c} {d} p x =
+    let w = like p x in
+    (w .0, blind-seen (turn x c .1) ∙ ap seen (w .1) ∙ sym (blind-seen (turn x d .1)))
 
 pub seen-isolated : (k : ℕ) → k < 8 → (s t : Slots) → Eight s → Eight t → (cs ds xs ys : List Call)
     → only k cs ≡ opens k ∷ xs → only k ds ≡ opens k ∷ ys → Pairs xs ys → SeenIsolated k s t cs ds xs ys
-seen-isolated k h s t e f cs ds xs ys p q l =
-    let i = isolated k h s t e f cs ds xs ys p q l in
-    record {
-      answered = blinds-seen (repliesAt k s cs) ∙ ap allSeen (i .answered) ∙ sym (blinds-seen (repliesAt k t ds));
-      left = i .left;
-      alone = ap allSeen (i .alone);
-      stands = i .stands;
-      alone′ = ap allSeen (i .alone′);
-      stands′ = i .stands′;
-    }
+seen-isolated k h = isolated (seen-slot k h) (opens k) freshSlot (called 0) (λ x. refl) Pair blindly (λ c d. seen-like {c = c} {d = d})
 
 -- ---- no byte past the stated size has any effect on what an entry answers
 
@@ -78,15 +82,15 @@ handed-but-first n e d fields row = go (leb (length (e ∷ fields)) (length row)
     go false = record { answered = refl; long = refl; rest = refl }
 
 row-unextended : (a : Answer) (row : List ℕ) → SameButFirst (wroteFields a row) (wroteFields (unextended a) row)
-unfolding wroteFields fieldsOf
+unfolding wroteFields wroteBy fieldsOf
 row-unextended a row = go (a .outcome)
   where
-    fields : SameButFirst (handedOver (answerNumber a) (fieldsOf a) row) (handedOver (answerNumber a) (fieldsOf (unextended a)) row)
-    fields = handed-but-first (answerNumber a) (a .extension) 0 (recordFields (a .beside) (a .message)) row
+    fields : (n : ℕ) → SameButFirst (handedOver n (fieldsOf a) row) (handedOver n (fieldsOf (unextended a)) row)
+    fields n = handed-but-first n (a .extension) 0 (recordFields (a .beside) (a .message)) row
 
-    go : (o : Outcome) → SameButFirst (wroteBy o a row) (wroteBy o (unextended a) row)
-    go Taken = fields
-    go SetAside = fields
+    go : (o : Outcome) → SameButFirst (wroteBy o (fieldsOf a) row) (wroteBy o (fieldsOf (unextended a)) row)
+    go Taken = fields 0
+    go SetAside = fields 20
     go (Refused why) = record { answered = refl; long = refl; rest = refl }
 
 pub varied-row : (kind size : ℕ) (bytes : List ℕ) (size′ : ℕ) (bytes′ : List ℕ) → VariedPayload kind size bytes size′ bytes′ → (row : List ℕ)

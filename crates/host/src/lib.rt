@@ -2,7 +2,7 @@
 pub mod slot;
 
 use answers::Rest;
-use reader::payload::read;
+use reader::brief::brief;
 use reader::verdict::number;
 ghost use mathlib.Core.Path.{_≡_};
 ghost use Rattle.answers.specs.Answer.{answerNumber};
@@ -24,8 +24,7 @@ pub extern "C" fn bruskelde_read(kind: u64, size: u64, bytes: &[u8]) -> u32
 pub extern "C" fn bruskelde_fields(kind: u64, size: u64, bytes: &[u8], row: &mut [u64]) -> u32
     ensures { λ r. ⌜ left r (now (row .exit)) ≡ wroteFields (answerTo kind size (now (bytes .entry))) (now (row .entry)) ⌝ }
 {
-    let answer = read(kind, size, bytes);
-    record_row::handing::write(row, answer)
+    record_row::handing::write(kind, size, bytes, row)
 }
 
 // A part of the lent bytes, by its first byte and how many there are.
@@ -40,8 +39,8 @@ pub struct Part {
 pub extern "C" fn bruskelde_part(kind: u64, size: u64, bytes: &[u8]) -> Part
     ensures { λ r. ⌜ r ≡ partOf kind size (now (bytes .entry)) ⌝ }
 {
-    let answered = read(kind, size, bytes);
-    let rest = answered.rest;
+    let brief = brief(kind, size, bytes);
+    let rest = brief.rest;
     let Rest::From(at) = rest else {
         return Part {
             offset: 0,

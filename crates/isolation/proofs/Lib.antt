@@ -3,9 +3,7 @@ pub mod OneCall
 pub mod PairLaws
 pub mod Isolation
 pub mod Opened
-pub mod HeldKinds
 pub mod Persistence
 pub mod HeldMessages
 pub mod Reachable
-pub mod Tied
 mod Examples

@@ -4,31 +4,26 @@ use Prim.Native.Nat.{ℕ, _<_}
 use mathlib.Core.Path.{_≡_, refl, sym, ap, _∙_}
 use mathlib.Core.Bool.{Bool, true, false}
 use mathlib.Core.List.{List, [], _∷_}
-use Rattle.bits.specs.Choice.{if_then_else_}
-use Rattle.slots.specs.Slots.{Eight, start, slotAt, isOpen, freshSlot, closedSlot}
+use Rattle.slots.specs.Slots.{Eight, start, slotAt, isOpen, whenOpen}
 use Rattle.slots.specs.declared.Slot.{Slot}
 use Rattle.slots.specs.declared.Slots.{Slots}
-use Rattle.slots.proofs.Laws.{start-eight, start-closed, fresh-open, closed-shut, holding-open}
-use Rattle.isolation.specs.Runs.{Call, opens, closes, sequences, pictures, feeds, tables, Reply, after, only, turn, ends}
+use Rattle.slots.proofs.Laws.{start-eight, start-closed, fresh-open, closed-shut, holding-open, either}
+use Rattle.isolation.specs.Runs.{Call, opens, closes, sequences, pictures, feeds, tables, after, only, turn, ends}
 use Rattle.isolation.specs.Opened.{openAfterCall, openAfter}
 use Rattle.isolation.proofs.Isolation.{factors}
 
-abbrev openIn : Slot × Reply → Bool
-openIn w = isOpen (w .0)
-
 -- a call that acts only on an open slot
-where-open : (b : Bool) (x y : Slot) (r q : Reply) (c : Bool) → isOpen x ≡ b → (b ≡ true → isOpen y ≡ c) → (b ≡ false → c ≡ false)
-    → openIn (if b then (y, r) else (x, q)) ≡ c
-where-open true x y r q c e f g = f refl
-where-open false x y r q c e f g = e ∙ sym (g refl)
+where-open : {A : Type 0} (x : Slot) (shut : A) (acted : Slot × A) (c : Bool) → (isOpen x ≡ true → isOpen (acted .0) ≡ c) → (isOpen x ≡ false → c ≡ false)
+    → isOpen (whenOpen x shut acted .0) ≡ c
+where-open x shut acted c f g = either x shut acted (λ w. isOpen (w .0) ≡ c) f (λ o. o ∙ sym (g o))
 
-one-call : (x : Slot) (c : Call) → openIn (turn x c) ≡ openAfterCall (isOpen x) c
+one-call : (x : Slot) (c : Call) → isOpen (turn x c .0) ≡ openAfterCall (isOpen x) c
 one-call x (opens n) = fresh-open
-one-call x (closes n) = where-open (isOpen x) x closedSlot _ _ false refl (λ o. closed-shut) (λ o. refl)
-one-call x (sequences n) = where-open (isOpen x) x freshSlot _ _ (isOpen x) refl (λ o. fresh-open ∙ sym o) (λ o. o)
-one-call x (pictures n) = where-open (isOpen x) x _ _ _ (isOpen x) refl (λ o. holding-open x _) (λ o. o)
-one-call x (feeds n kind size bytes) = where-open (isOpen x) x _ _ _ (isOpen x) refl (λ o. holding-open x _) (λ o. o)
-one-call x (tables n lent) = refl
+one-call x (closes n) = where-open x _ _ false (λ o. closed-shut) (λ o. refl)
+one-call x (sequences n) = where-open x _ _ (isOpen x) (λ o. fresh-open ∙ sym o) (λ o. o)
+one-call x (pictures n) = where-open x _ _ (isOpen x) (λ o. holding-open x _) (λ o. o)
+one-call x (feeds n kind size bytes) = where-open x _ _ (isOpen x) (λ o. holding-open x _) (λ o. o)
+one-call x (tables n lent) = where-open x _ _ (isOpen x) (λ o. refl) (λ o. o)
 
 -- of one slot alone
 pub open-by-calls : (cs : List Call) (x : Slot) → isOpen (ends x cs) ≡ openAfter (isOpen x) cs

@@ -6,12 +6,10 @@ use mathlib.Core.Logic.{_↔_, _⊎_, inl, inr}
 use mathlib.Core.Bool.{Bool, true, false}
 use mathlib.Core.List.{List, _++_}
 use lib.ListN.{take}
-use Rattle.bits.specs.Refusals.{bySlot}
 use Rattle.bits.specs.Bits.{bitsOf}
 use Rattle.format.specs.Whole.{given, whole}
 use Rattle.format.specs.Holds.{Follows, Holds}
 use Rattle.format.proofs.Whole.{whole-holds, varied-whole}
-use Rattle.region_table.specs.Rows.{refuses}
 use Rattle.answers.specs.Listed.{Record, form, number, readingOf}
 use Rattle.answers.specs.Answer.{answerNumber, answerFor}
 use Rattle.reader.specs.Reader.{answerTo, Within}
@@ -22,13 +20,13 @@ use Rattle.reader.proofs.Calls.{to-payload}
 use Rattle.reader.proofs.Demand2.{number-0, number-20, answer-0, answer-20}
 use Rattle.reader.proofs.Local.{local}
 use Rattle.bits.specs.Choice.{if_then_else_}
-use Rattle.slots.specs.Slots.{isOpen, holding}
+use Rattle.slots.specs.Slots.{isOpen, holding, whenOpen}
 use Rattle.held.specs.declared.Held.{Held}
 use Rattle.slots.specs.declared.Slot.{Slot}
 use Rattle.feeding.specs.Feed.{heldAfter, shutAnswer}
-use Rattle.region_table.specs.Table.{tableOfHeld}
-use Rattle.isolation.specs.Runs.{Call, Reply, read, tabled, turn, ends, replies, unextended, blind, blinds}
-use Rattle.isolation.specs.Pairs.{IsMessage, VariedPayload, Pair, same, cut, varied, lent, Pairs, end, both}
+use Rattle.region_table.specs.Table.{tabling}
+use Rattle.isolation.specs.Runs.{Call, Reply, read, tabled, replying, turn, unextended, blind}
+use Rattle.isolation.specs.Pairs.{IsMessage, VariedPayload, Pair, same, cut, varied, lent}
 
 -- ---- which payloads vary: exactly those answered 0 or 20
 
@@ -92,24 +90,16 @@ held-unextended : (h : Held) (a : Answer) → heldAfter h (unextended a) ≡ hel
 unfolding heldAfter
 held-unextended h a = refl
 
-like-feed : (x : Slot) (kind : ℕ) (a b : Answer) → unextended a ≡ unextended b → (t : Bool)
-    → Like (if t then (holding x (heldAfter (x .held) a), read a) else (x, read (shutAnswer kind)))
-    (if t then (holding x (heldAfter (x .held) b), read b) else (x, read (shutAnswer kind)))
-like-feed x kind a b e true =
-    (ap (holding x) (sym (held-unextended (x .held) a) ∙ ap (heldAfter (x .held)) e ∙ held-unextended (x .held) b), ap read e)
-like-feed x kind a b e false = (refl, refl)
+like-feed : (x : Slot) (kind : ℕ) (a b : Answer) → unextended a ≡ unextended b
+    → Like (replying read (whenOpen x (shutAnswer kind) (holding x (heldAfter (x .held) a), a))) (replying read (whenOpen x (shutAnswer kind) (holding x (heldAfter (x .held) b), b)))
+like-feed x kind a b e = go (isOpen x)
+  where
+    go : (t : Bool) → Like (replying read (if t then (holding x (heldAfter (x .held) a), a) else (x, shutAnswer kind))) (replying read (if t then (holding x (heldAfter (x .held) b), b) else (x, shutAnswer kind)))
+    go true = (ap (holding x) (sym (held-unextended (x .held) a) ∙ ap (heldAfter (x .held)) e ∙ held-unextended (x .held) b), ap read e)
+    go false = (refl, refl)
 
 pub like : {c d : Call} → Pair c d → (x : Slot) → Like (turn x c) (turn x d)
 like (same c) x = (refl, refl)
-like (cut n kind size bytes bytes′ l l′ e) x = like-feed x kind _ _ (ap unextended (local kind size bytes bytes′ l l′ e)) (isOpen x)
-like (varied n kind size bytes size′ bytes′ v) x = like-feed x kind _ _ (varied-answer kind size bytes size′ bytes′ v) (isOpen x)
-like (lent n rows rows′ e) x = (refl, ap (λ m. tabled (if isOpen x then tableOfHeld (x .held) m else refuses bySlot)) e)
-
--- ---- any number of them
-
-pub like-run : {cs ds : List Call} → Pairs cs ds → (x : Slot) → (blinds (replies x cs) ≡ blinds (replies x ds)) × (ends x cs ≡ ends x ds)
-like-run end x = (refl, refl)
-like-run (both {c} {d} {cs} {ds} p ps) x =
-    let w = like p x in
-    let r = like-run ps (turn x c .0) in
-    (rw (r .0, w .0, w .1), rw (r .1, w .0))
+like (cut n kind size bytes bytes′ l l′ e) x = like-feed x kind _ _ (ap unextended (local kind size bytes bytes′ l l′ e))
+like (varied n kind size bytes size′ bytes′ v) x = like-feed x kind _ _ (varied-answer kind size bytes size′ bytes′ v)
+like (lent n rows rows′ e) x = (ap (λ m. tabling m x .0) e, ap (λ m. tabled (tabling m x .1)) e)

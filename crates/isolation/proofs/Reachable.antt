@@ -8,7 +8,6 @@ use mathlib.Core.List.{List, [], _∷_}
 use lib.Dec.{eqb}
 use borrow.Author.Tests.{eqb-true, eqb-false}
 use Rattle.bits.proofs.BitLaws.{below}
-use Rattle.answers.specs.Listed.{Record}
 use Rattle.kind_region_wise.specs.RegionWise.{most}
 use Rattle.kind_region_wise.specs.declared.RegionWise.{RegionWise}
 use Rattle.region_table.specs.Rows.{Countable, Uncountable, tabledNumber}
@@ -20,9 +19,10 @@ use Rattle.slots.specs.declared.Slots.{Slots}
 use Rattle.slots.proofs.Laws.{start-eight, start-closed, slot-past, closed-holds, fresh-holds}
 use Rattle.region_table.specs.Table.{tableIn}
 use Rattle.region_table.specs.Cases.{regionWiseOf, NoTable, none, uncounted, unpacked, other, Tableless}
-use Rattle.region_table.proofs.TableLaws.{when-9}
+use Rattle.region_table.proofs.TableLaws.{when-9, on-slot}
 use Rattle.isolation.specs.Runs.{Call, opens, after, only, ends}
-use Rattle.isolation.specs.Lasting.{Lasting, regionWise, kindOf, cancelOf, ByTable, HoldsOf, history, Since}
+use Rattle.held.specs.Lasting.{Lasting, regionWise, RecordOf, cancelOf}
+use Rattle.isolation.specs.Lasting.{ByTable, HoldsOf, history, Since}
 use Rattle.isolation.proofs.Isolation.{factors, alone, eight-after}
 use Rattle.isolation.proofs.Persistence.{holds-when, holds-iff}
 use Rattle.isolation.proofs.HeldMessages.{alone-table, table-countable}
@@ -73,21 +73,21 @@ words h k = (to, back)
     back (inr (m, inl f)) = unpacked m f
     back (inr (m, inr w)) = other m (w .0) (w .1)
 
-nine-of : (s : Slots) (n room : ℕ) → ByItsTable (slotAt s n)
+nine-of : (s : Slots) (n room : ℕ) → Eight s → ByItsTable (slotAt s n)
     → (tabledNumber (tableIn s n room .answer) ≡ 9) ↔ ((isOpen (slotAt s n) ≡ true) × Tableless (slotAt s n .held))
-nine-of s n room t =
-    let when = when-9 s n room in
+nine-of s n room e t =
+    let when = when-9 (slotAt s n) room in
     let same = words (slotAt s n .held) (countable-of (slotAt s n) t) in
-    (λ q. let w = when .0 q in (w .0, same .0 (w .1)), λ w. when .1 (w .0, same .1 (w .1)))
+    rw (on-slot s n room e) (λ q. let w = when .0 q in (w .0, same .0 (w .1)), λ w. when .1 (w .0, same .1 (w .1)))
 
 -- ---- from the start
 
-pub holds-from-start : (k : Lasting) (a : Record (kindOf k)) (cs : List Call) (n : ℕ) → n < 8
+pub holds-from-start : (k : Lasting) (a : RecordOf k) (cs : List Call) (n : ℕ) → n < 8
     → HoldsOf k a (slotAt (after start cs) n) ↔ Since k a (history closedSlot (only n cs))
 holds-from-start k a cs n h = rw (own-calls cs n h) (holds-when k a closedSlot closed-holds (only n cs))
 
 -- each record is one that its table gives, and no cancel
-pub held-table : (k : Lasting) (a : Record (kindOf k)) (cs : List Call) (n : ℕ) → HoldsOf k a (slotAt (after start cs) n) → ByTable k a × (cancelOf k a ≡ 0)
+pub held-table : (k : Lasting) (a : RecordOf k) (cs : List Call) (n : ℕ) → HoldsOf k a (slotAt (after start cs) n) → ByTable k a × (cancelOf k a ≡ 0)
 held-table k a cs n q = let x = some-calls cs n in alone-table k a closedSlot closed-holds (x .0) (rw (x .1) at q)
 
 pub held-count : (p : RegionWise) (cs : List Call) (n : ℕ) → HoldsOf regionWise p (slotAt (after start cs) n) → (1 ≤ p .«rwp_num_packed_regions») × (p .«rwp_num_packed_regions» ≤ most)
@@ -99,15 +99,15 @@ held-countable cs n = countable-of (slotAt (after start cs) n) (λ a. held-table
 
 pub nine-from-start : (cs : List Call) (n room : ℕ)
     → (tabledNumber (tableIn (after start cs) n room .answer) ≡ 9) ↔ ((isOpen (slotAt (after start cs) n) ≡ true) × Tableless (slotAt (after start cs) n .held))
-nine-from-start cs n room = nine-of (after start cs) n room (λ a. held-table regionWise a cs n)
+nine-from-start cs n room = nine-of (after start cs) n room (eight-after cs start start-eight) (λ a. held-table regionWise a cs n)
 
 -- ---- since its opening, from any eight slots
 
 module _ (n : ℕ) (h : n < 8) (s : Slots) (e : Eight s) (cs xs : List Call) (p : only n cs ≡ opens n ∷ xs) where
-  pub holds-in-run : (k : Lasting) (a : Record (kindOf k)) → HoldsOf k a (slotAt (after s cs) n) ↔ Since k a (history freshSlot xs)
+  pub holds-in-run : (k : Lasting) (a : RecordOf k) → HoldsOf k a (slotAt (after s cs) n) ↔ Since k a (history freshSlot xs)
   holds-in-run k a = rw (alone n h s e cs xs p .1) (holds-iff k a xs)
 
-  pub held-table-in-run : (k : Lasting) (a : Record (kindOf k)) → HoldsOf k a (slotAt (after s cs) n) → ByTable k a × (cancelOf k a ≡ 0)
+  pub held-table-in-run : (k : Lasting) (a : RecordOf k) → HoldsOf k a (slotAt (after s cs) n) → ByTable k a × (cancelOf k a ≡ 0)
   held-table-in-run k a q = alone-table k a freshSlot fresh-holds xs (rw (alone n h s e cs xs p .1) at q)
 
   pub held-count-in-run : (a : RegionWise) → HoldsOf regionWise a (slotAt (after s cs) n) → (1 ≤ a .«rwp_num_packed_regions») × (a .«rwp_num_packed_regions» ≤ most)
@@ -115,4 +115,4 @@ module _ (n : ℕ) (h : n < 8) (s : Slots) (e : Eight s) (cs xs : List Call) (p 
 
   pub nine-in-run : (room : ℕ)
       → (tabledNumber (tableIn (after s cs) n room .answer) ≡ 9) ↔ ((isOpen (slotAt (after s cs) n) ≡ true) × Tableless (slotAt (after s cs) n .held))
-  nine-in-run room = nine-of (after s cs) n room (held-table-in-run regionWise)
+  nine-in-run room = nine-of (after s cs) n room (eight-after cs s e) (held-table-in-run regionWise)

@@ -2,9 +2,10 @@
 use Prim.Native.Nat.{ℕ, _≤_}
 use mathlib.Core.Path.{_≡_}
 use mathlib.Core.Bool.{Bool, true}
-use mathlib.Core.List.{List, [], _∷_, _++_}
+use mathlib.Core.List.{List, _++_}
 use lib.ListN.{length, take}
 use Rattle.bits.specs.Bits.{mostBytes, bitsOf}
+use Rattle.runs.specs.Cell.{Pairwise, Same}
 use Rattle.format.specs.Holds.{Holds, Follows}
 use Rattle.format.specs.Varied.{Variation}
 use Rattle.answers.specs.Listed.{Record, form, number}
@@ -12,7 +13,7 @@ use Rattle.answers.specs.declared.kind.Kind.{Kind}
 use Rattle.slots.specs.Slots.{freshSlot, slotAt}
 use Rattle.slots.specs.declared.Answer.the-variants.{Done}
 use Rattle.slots.specs.declared.Slots.{Slots}
-use Rattle.isolation.specs.Runs.{Call, feeds, tables, said, after, repliesAt, ends, replies, blinds}
+use Rattle.isolation.specs.Runs.{Call, feeds, tables, said, turn, step, on, blind}
 
 -- Within the size limits, the payload's bits are a message of kind k and what may follow it: the payload is taken or set aside.
 pub record IsMessage (k : Kind) (size : ℕ) (bytes : List ℕ) : Type 0 where
@@ -47,16 +48,10 @@ pub data Pair : Call → Call → Type 0 where
       → Pair (feeds n kind size bytes) (feeds n kind size′ bytes′)
   lent : (n : ℕ) (rows rows′ : List ℕ) → length rows ≡ length rows′ → Pair (tables n rows) (tables n rows′)
 
-pub data Pairs : List Call → List Call → Type 0 where
-  end : Pairs [] []
-  both : {c d : Call} {cs ds : List Call} → Pair c d → Pairs cs ds → Pairs (c ∷ cs) (d ∷ ds)
+abbrev pub Pairs : List Call → List Call → Type 0
+Pairs cs ds = Pairwise Pair cs ds
 
 -- The runs cs and ds, from s and t, give the same at slot k: every reply but for the extension's length, every row written, and what the
 -- slot holds; and each is what its own calls, xs and ys, give on a fresh slot alone.
-pub record Isolated (k : ℕ) (s t : Slots) (cs ds xs ys : List Call) : Type 0 where
-  pub answered : blinds (repliesAt k s cs) ≡ blinds (repliesAt k t ds)
-  pub left : slotAt (after s cs) k ≡ slotAt (after t ds) k
-  pub alone : repliesAt k s cs ≡ said Done ∷ replies freshSlot xs
-  pub stands : slotAt (after s cs) k ≡ ends freshSlot xs
-  pub alone′ : repliesAt k t ds ≡ said Done ∷ replies freshSlot ys
-  pub stands′ : slotAt (after t ds) k ≡ ends freshSlot ys
+abbrev pub Isolated : (k : ℕ) (s t : Slots) (cs ds xs ys : List Call) → Type 0
+Isolated k s t cs ds xs ys = Same step turn (on k) (λ z. slotAt z k) blind freshSlot (said Done) s t cs ds xs ys

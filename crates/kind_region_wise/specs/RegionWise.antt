@@ -1,15 +1,22 @@
 -- Kind 155: H.274 8.15.5.1, regionwise_packing( payloadSize ).
 use Prim.Native.Nat.{ℕ}
+use mathlib.Core.Path.{_≡_}
+use mathlib.Core.Logic.{_≢_}
 use mathlib.Core.List.{List}
 use lib.Dec.{leb, eqb}
 use lib.ListN.{replicate}
 use Rattle.bits.specs.Refusals.{Verdict, tooMany}
-use Rattle.bits.specs.Out.{Out, taken, refused}
+use Rattle.bits.specs.Out.{Out, taken, refused, after}
+use Rattle.bits.specs.declared.read.Onward.{Onward}
 use Rattle.bits.specs.declared.read.Onward.the-variants as onward
+use Rattle.bits.specs.declared.refusal.Refusal.{Refusal}
 use Rattle.format.specs.Format.{Format, done, _>>=_, _of_, zeros}
+use Rattle.format.specs.Reading.{runAt}
 use Rattle.format.specs.Syntax.{u, guardType, _at_, ignored, _must_, _unless_, _also_, atLeast, usable, when, listed}
 use Rattle.kind_region_wise.specs.declared.RegionWise.{RegionWise}
 use Rattle.kind_region_wise.specs.declared.RegionWiseRead.{RegionWiseRead}
+use Rattle.kind_region_wise.specs.declared.Head.{Head}
+use Rattle.kind_region_wise.specs.declared.HeadRead.{HeadRead}
 use Rattle.kind_region_wise.specs.declared.region.Region.{Region}
 use Rattle.kind_region_wise.specs.declared.region.RegionRead.{RegionRead}
 use Rattle.kind_region_wise.specs.declared.region.RegionRead.the-variants as region-read
@@ -115,11 +122,80 @@ abbrev pub regionOut : RegionRead → Out Region
 regionOut (region-read.Taken a c) = taken a (c .at)
 regionOut (region-read.Refused r) = refused r
 
+-- an entry for each region that a record has, of zeros
+abbrev pub noRegions : List Region
+noRegions = replicate most (zeros regionTable)
+
 -- what the code answers for what reading comes to: zeros on a refusal
 abbrev pub regionsRead : Out (List Region) → RegionsRead
 regionsRead (taken rs q) = record { regions = rs; onward = onward.Next (record { at = q }) }
-regionsRead (refused r) = record { regions = replicate most (zeros regionTable); onward = onward.Refused r }
+regionsRead (refused r) = record { regions = noRegions; onward = onward.Refused r }
 
 abbrev pub regionWiseRead : Out RegionWise → RegionWiseRead
 regionWiseRead (taken a q) = record { «record» = a; onward = onward.Next (record { at = q }) }
 regionWiseRead (refused r) = record { «record» = zeros table; onward = onward.Refused r }
+
+-- ---- the code reads what stands before the regions, the head, by itself, and then goes on
+
+abbrev pub joined : Head → List Region → RegionWise
+joined h rs =
+    record {
+      «rwp_cancel_flag» = h .«rwp_cancel_flag»;
+      «rwp_persistence_flag» = h .«rwp_persistence_flag»;
+      «rwp_constituent_picture_matching_flag» = h .«rwp_constituent_picture_matching_flag»;
+      «rwp_num_packed_regions» = h .«rwp_num_packed_regions»;
+      «rwp_proj_picture_width» = h .«rwp_proj_picture_width»;
+      «rwp_proj_picture_height» = h .«rwp_proj_picture_height»;
+      «rwp_packed_picture_width» = h .«rwp_packed_picture_width»;
+      «rwp_packed_picture_height» = h .«rwp_packed_picture_height»;
+      regions = rs;
+    }
+
+abbrev pub noHead : Head
+noHead =
+    record {
+      «rwp_cancel_flag» = 0;
+      «rwp_persistence_flag» = 0;
+      «rwp_constituent_picture_matching_flag» = 0;
+      «rwp_num_packed_regions» = 0;
+      «rwp_proj_picture_width» = 0;
+      «rwp_proj_picture_height» = 0;
+      «rwp_packed_picture_width» = 0;
+      «rwp_packed_picture_height» = 0;
+    }
+
+abbrev pub headRefused : Refusal → HeadRead
+headRefused r = record { head = noHead; onward = onward.Refused r }
+
+abbrev pub headKept : Head → Onward → Head
+headKept h (onward.Next c) = h
+headKept h (onward.Refused r) = noHead
+
+-- the regions, from where the reading goes on
+abbrev pub regionsFrom : Onward → ℕ → List ℕ → Out (List Region)
+regionsFrom (onward.Next c) n s = runAt (listed most n region) s (c .at)
+regionsFrom (onward.Refused r) n s = refused r
+
+-- what the whole comes to, after its head
+abbrev pub restOf : HeadRead → List ℕ → Out RegionWise
+restOf h s = after (regionsFrom (h .onward) (h .head .«rwp_num_packed_regions») s) (λ rs q. taken (joined (h .head) rs) q)
+
+-- ---- a cancel is its flag and nothing else
+
+-- a record, but for that flag
+abbrev pub uncancelled : RegionWise → RegionWise
+uncancelled a =
+    record {
+      «rwp_cancel_flag» = 0;
+      «rwp_persistence_flag» = a .«rwp_persistence_flag»;
+      «rwp_constituent_picture_matching_flag» = a .«rwp_constituent_picture_matching_flag»;
+      «rwp_num_packed_regions» = a .«rwp_num_packed_regions»;
+      «rwp_proj_picture_width» = a .«rwp_proj_picture_width»;
+      «rwp_proj_picture_height» = a .«rwp_proj_picture_height»;
+      «rwp_packed_picture_width» = a .«rwp_packed_picture_width»;
+      «rwp_packed_picture_height» = a .«rwp_packed_picture_height»;
+      regions = a .regions;
+    }
+
+abbrev pub BareCancel : RegionWise → Type 0
+BareCancel a = a .«rwp_cancel_flag» ≢ 0 → uncancelled a ≡ zeros table

@@ -9,13 +9,11 @@ use bits::read::Onward;
 use bits::refusal::Refusal;
 ghost use mathlib.Core.Path.{_≡_};
 ghost use Prim.Native.Nat.{_≤_};
-ghost use lib.ListN.{replicate};
 ghost use Rattle.bits.specs.Answers.{byteOut};
 ghost use Rattle.bits.specs.Bits.{Payload};
-ghost use Rattle.format.specs.Format.{zeros};
-ghost use Rattle.format.specs.Reading.{elementAt, runAt};
-ghost use Rattle.format.specs.Syntax.{u as unsigned, _must_, listed};
-ghost use Rattle.kind_region_wise.specs.RegionWise.{most, countable, regionTable, region as regionOf, regionsRead};
+ghost use Rattle.format.specs.Reading.{elementAt};
+ghost use Rattle.format.specs.Syntax.{u as unsigned, _must_};
+ghost use Rattle.kind_region_wise.specs.RegionWise.{most, countable, noRegions, regionsFrom, regionsRead};
 
 // How many there are: 5 where it is 0, 6 above the limit.
 pub(crate) fn read_count(s: &[u8], c: Cursor) -> ByteRead
@@ -43,18 +41,22 @@ pub(crate) struct RegionsRead {
 
 // An entry for each region that a message may have, of zeros.
 pub(crate) fn no_regions() -> [Region; MOST]
-    ensures { λ r. ⌜ r ≡ replicate most (zeros regionTable) ⌝ }
+    ensures { λ r. ⌜ r ≡ noRegions ⌝ }
 {
     let none = Region::zero();
     [none; MOST]
 }
 
-pub(crate) fn read_regions(s: &[u8], c: Cursor, count: u8) -> RegionsRead
+// From where the reading goes on, if it does.
+pub(crate) fn read_regions(s: &[u8], onward: Onward, count: u8) -> RegionsRead
     requires { ⌜ Payload (now s) × (count ≤ most) ⌝ }
-    ensures { λ r. ⌜ r ≡ regionsRead (runAt (listed most count regionOf) (now (s .entry)) (c .at)) ⌝ }
+    ensures { λ r. ⌜ r ≡ regionsRead (regionsFrom onward count (now (s .entry))) ⌝ }
 {
-    let n = count as usize;
     let mut regions = no_regions();
+    let Onward::Next(c) = onward else {
+        return RegionsRead { regions, onward };
+    };
+    let n = count as usize;
     let mut at = c;
     let mut i: usize = 0;
     while i < n {

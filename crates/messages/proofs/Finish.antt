@@ -15,9 +15,9 @@ use Rattle.bits.specs.declared.refusal.Refusal.{Refusal}
 use Rattle.format.specs.Reading.{runAt}
 use Rattle.format.specs.Whole.{given, ended}
 use Rattle.format.proofs.Whole.{endingAt, closedAt, whole-at}
-use Rattle.answers.specs.Listed.{Record, listing, nothing, form, readingOf}
+use Rattle.answers.specs.Listed.{Record, listing, form, readingOf}
 use Rattle.answers.proofs.KindLaws.{refused-plain}
-use Rattle.answers.specs.Answer.{messageOf, answerFor, refusedAs, finished}
+use Rattle.answers.specs.Answer.{briefOf, messageOf, answerFor, refusedAs, finished}
 use Rattle.answers.specs.declared.Rest.the-variants.{Nowhere}
 use Rattle.answers.specs.declared.kind.Kind.{Kind}
 use Rattle.answers.specs.declared.Outcome.{Outcome}
@@ -32,11 +32,12 @@ abbrev pub outcomeFor : Bool → Outcome
 outcomeFor true = outcome.SetAside
 outcomeFor false = outcome.Taken
 
--- and then by its end, for a kind with nothing beside its message and no rest
-finish : (k : Kind) (a : Record k) → listing k .rest a ≡ Nowhere → listing k .beside a ≡ nothing → (b : Bool) → form k .aside a ≡ b → (t : Ending) → answerFor k (ended (form k .aside) a t) ≡ finished k (outcomeFor b) (messageOf k a) t
-finish k a p q true h (ending.Extension e) = ap (λ x. answerFor k (given x a e)) h ∙ rw q
-finish k a p q false h (ending.Extension e) = ap (λ x. answerFor k (given x a e)) h ∙ rw (p, q)
-finish k a p q b h (ending.Refused r) = refused-plain k r
+-- and then by its end, for a kind with no rest
+finish : (k : Kind) (a : Record k) → listing k .rest a ≡ Nowhere → (b : Bool) → form k .aside a ≡ b → (t : Ending)
+    → briefOf (answerFor k (ended (form k .aside) a t)) ≡ briefOf (finished k (outcomeFor b) (messageOf k a) t)
+finish k a p true h (ending.Extension e) = ap (λ x. briefOf (answerFor k (given x a e))) h
+finish k a p false h (ending.Extension e) = ap (λ x. briefOf (answerFor k (given x a e))) h ∙ rw p
+finish k a p b h (ending.Refused r) = ap briefOf (refused-plain k r)
 
 -- the two ends of a kind's reading, from what its reader ensures and which case it came to
 module _ (k : Kind) (s : List ℕ) {o : Out (Record k)} (ensured : o ≡ runAt (form k .table) s 0) where
@@ -46,11 +47,10 @@ module _ (k : Kind) (s : List ℕ) {o : Out (Record k)} (ensured : o ≡ runAt (
   pub by-taken : {a : Record k} {q : ℕ} → o ≡ taken a q → answerFor k (closedAt (form k) s (taken a q)) ≡ answerFor k (readingOf k s)
   by-taken e = sym (by-read k s ensured ∙ ap (λ x. answerFor k (closedAt (form k) s x)) e)
 
-  -- with nothing beside the message and no rest
-  pub by-plain : {a : Record k} {q : ℕ} → o ≡ taken a q
-      → listing k .rest a ≡ Nowhere → listing k .beside a ≡ nothing
-      → (b : Bool) → form k .aside a ≡ b → finished k (outcomeFor b) (messageOf k a) (endingAt (form k .tailed) s q) ≡ answerFor k (readingOf k s)
-  by-plain {a} {q} e none alone b h = sym (finish k a none alone b h (endingAt (form k .tailed) s q)) ∙ by-taken e
+  -- with no rest
+  pub by-finished : {a : Record k} {q : ℕ} → o ≡ taken a q → listing k .rest a ≡ Nowhere → (b : Bool) → form k .aside a ≡ b
+      → briefOf (finished k (outcomeFor b) (messageOf k a) (endingAt (form k .tailed) s q)) ≡ briefOf (answerFor k (readingOf k s))
+  by-finished {a} {q} e none b h = sym (finish k a none b h (endingAt (form k .tailed) s q)) ∙ ap briefOf (by-taken e)
 
 -- a reader that answers a struct, read off what the elements came to
 module _ {A R : Type 0} (readOf : Out A → R) (onwardOf : R → Onward) (valueOf : R → A)

@@ -1,7 +1,7 @@
 -- The three ways of a call: 1, then 2, then what the payload comes to.
 -- Assumes nothing.
 use Prim.Native.Nat.{ℕ, _≤_, _<_}
-use mathlib.Core.Path.{_≡_, ap}
+use mathlib.Core.Path.{_≡_, refl, sym, ap, subst}
 use mathlib.Core.Logic.{_≢_, _⊎_, inl, inr}
 use mathlib.Core.List.{List}
 use lib.ListN.{length, take}
@@ -9,8 +9,9 @@ use Rattle.bits.specs.Refusals.{bySize}
 use Rattle.bits.proofs.BitLaws.{below}
 use Rattle.answers.specs.Listed.{number, readingOf}
 use Rattle.answers.specs.Answer.{answerFor, refusedAs, unknown}
+use Rattle.answers.specs.declared.Answer.{Answer}
 use Rattle.answers.specs.declared.kind.Kind.{Kind}
-use Rattle.answers.proofs.KindLaws.{named-iff, unnamed-iff}
+use Rattle.answers.proofs.KindLaws.{named-iff, unnamed-iff, one-kind}
 use Rattle.reader.specs.Entry.{entryTo}
 use Rattle.reader.specs.declared.entry.Entry.{Entry}
 use Rattle.reader.proofs.EntryLaws.{entry-unlisted, entry-large, entry-long, entry-payload, Judged, judged}
@@ -48,3 +49,12 @@ module _ (n size : ℕ) (bytes : List ℕ) where
       go (entry.unlisted h e) = unlisted h (by-entry e)
       go (entry.oversized k h o e) = oversized k h o (by-entry e)
       go (entry.payload k h b c e) = payload k (h, b, c) (by-entry e)
+
+-- of a listed kind there are two
+pub of-kind : (k : Kind) (P : Answer → Type 0) (size : ℕ) (bytes : List ℕ) → P (refusedAs k bySize) → P (answerFor k (readingOf k (take size bytes))) → P (answerTo (number k) size bytes)
+of-kind k P size bytes over within = go (call (number k) size bytes)
+  where
+    go : Call (number k) size bytes → P (answerTo (number k) size bytes)
+    go (unlisted f m) = absurd (f k refl)
+    go (oversized j e o m) = subst P (sym m) (subst (λ i. P (refusedAs i bySize)) (one-kind k j e) over)
+    go (payload j w m) = subst P (sym m) (subst (λ i. P (answerFor i (readingOf i (take size bytes)))) (one-kind k j (w .0)) within)

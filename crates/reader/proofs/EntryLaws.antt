@@ -4,8 +4,11 @@ use Prim.Native.Nat.{ℕ, _≤_, _<_}
 use mathlib.Core.Path.{_≡_, refl, sym, ap, _∙_}
 use mathlib.Core.Logic.{_≢_, _⊎_, inl, inr}
 use mathlib.Core.Bool.{Bool, true, false}
+use mathlib.Core.List.{List, [], _∷_}
 use native.Mathlib.Omega.{arith}
 use borrow.Author.Tests.{le-leb, lt-leb}
+use denote.Enum.Declared.{tagOf}
+use types.Run.{OneOf, miss}
 use Rattle.bits.proofs.BitLaws.{below}
 use Rattle.answers.specs.Listed.{number, named}
 use Rattle.answers.specs.declared.kind.Kind.{Kind}
@@ -13,6 +16,7 @@ use Rattle.answers.specs.declared.kind.Named.{Named}
 use Rattle.answers.specs.declared.kind.Named.the-variants as names
 use Rattle.answers.proofs.KindLaws.{named-iff, unnamed-iff}
 use Rattle.reader.specs.Entry.{fits, entered, entryTo}
+use Rattle.reader.proofs.entry.Entry.{the-type}
 use Rattle.reader.specs.declared.entry.Entry.the-variants.{Unlisted, Oversized, Payload}
 
 module _ (n size room : ℕ) where
@@ -51,11 +55,23 @@ module _ (n size room : ℕ) where
       go (names.Listed k) e (inr b) (inl c) = oversized k (named-iff n k .0 e) (inr c) (entry-long k e b c)
       go (names.Listed k) e (inr b) (inr c) = payload k (named-iff n k .0 e) b c (entry-payload k e b c)
 
-  -- a payload is not larger than one may be
-  pub payload-limit : {k : Kind} → entryTo n size room ≡ Payload k → size ≤ 8192
-  payload-limit h = go judged
+  -- a payload is not larger than one may be, nor than the lent bytes
+  pub payload-fits : {k : Kind} → entryTo n size room ≡ Payload k → (size ≤ 8192) × (size ≤ room)
+  payload-fits h = go judged
     where
-      go : Judged → size ≤ 8192
+      go : Judged → (size ≤ 8192) × (size ≤ room)
       go (unlisted f e) = let q = sym e ∙ h in let z : _≡_ {A = ℕ} 0 1 = cc in absurd (omega arith)
       go (oversized k f o e) = let q = sym e ∙ h in let z : _≡_ {A = ℕ} 0 1 = cc in absurd (omega arith)
-      go (payload k f b c e) = b
+      go (payload k f b c e) = (b, c)
+
+  -- and what is none, of a listed kind, is larger
+  abbrev others : List ℕ
+  others = 0 ∷ 1 ∷ []
+
+  pub else-over : (k : Kind) → n ≡ number k → OneOf others (tagOf the-type (entryTo n size room)) → (8192 < size) ⊎ (room < size)
+  else-over k h o = go judged
+    where
+      go : Judged → (8192 < size) ⊎ (room < size)
+      go (unlisted f e) = absurd (f k h)
+      go (oversized j f l e) = l
+      go (payload j f b c e) = absurd (miss others 2 tt (rw e at o))

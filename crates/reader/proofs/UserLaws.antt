@@ -24,6 +24,7 @@ use Rattle.reader.specs.User.{partFrom, userPart}
 use Rattle.answers.specs.declared.kind.Kind.{Kind}
 use Rattle.answers.specs.declared.kind.Kind.the-variants as kinds
 use Rattle.answers.specs.declared.Answer.{Answer}
+use Rattle.answers.specs.declared.Brief.{Brief}
 use Rattle.answers.specs.declared.Outcome.the-variants.{Taken}
 use Rattle.answers.specs.declared.Rest.{Rest}
 use Rattle.answers.specs.declared.Rest.the-variants.{From, Nowhere}
@@ -34,8 +35,11 @@ use Rattle.reader.proofs.UserHeads as heads
 
 -- ---- where a part starts, that lies within the size, and the size within the lent bytes
 
-abbrev pub restOf : Answer → Rest
+abbrev restOf : Answer → Rest
 restOf a = a .rest
+
+abbrev pub startOf : Brief → Rest
+startOf b = b .rest
 
 never : {X : Type 0} {a : ℕ} → Nowhere ≡ From a → X
 never e = let z : _≡_ {A = ℕ} 0 1 = cc in absurd (omega arith)

@@ -4,14 +4,14 @@ use answers::kind::Named;
 ghost use mathlib.Core.Path.{_≡_};
 ghost use Rattle.reader.specs.Entry.{entryTo};
 
-pub(crate) enum Entry {
+pub enum Entry {
     Unlisted,
     Oversized(Kind),
     Payload(Kind),
 }
 
 // `room` is how many bytes are lent.
-pub(crate) fn judged(kind: u64, size: u64, room: usize) -> Entry
+pub fn judged(kind: u64, size: u64, room: usize) -> Entry
     ensures { λ r. ⌜ r ≡ entryTo kind size room ⌝ }
 {
     let named = Named::by(kind);

@@ -1,5 +1,7 @@
 // One reader for any kind, size and bytes.
-mod entry;
+pub mod brief;
+pub mod entry;
 pub mod payload;
+pub mod regions;
 pub mod user;
 pub mod verdict;

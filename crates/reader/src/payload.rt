@@ -2,6 +2,8 @@
 use crate::entry::Entry;
 use crate::entry::judged;
 use answers::Answer;
+use answers::Beside;
+use answers::Brief;
 use bits::refusal::Refusal;
 use lent::front;
 use messages::of_kind;
@@ -14,7 +16,7 @@ pub fn read(kind: u64, size: u64, bytes: &[u8]) -> Answer
 {
     let entry = judged(kind, size, bytes.len());
     match entry {
-        Entry::Unlisted => return Answer::unknown(),
+        Entry::Unlisted => return Answer::of(Brief::unknown(), Beside::nothing()),
         Entry::Oversized(k) => return Answer::refused(k, Refusal::size()),
         Entry::Payload(k) => return of_kind(k, front(bytes, size as usize)),
     }

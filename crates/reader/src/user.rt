@@ -1,5 +1,5 @@
 // User data: what follows the head of a payload of kind 4 or 5 is handed back as that part of the caller's bytes.
-use crate::payload::read;
+use crate::brief::brief;
 use answers::Rest;
 ghost use mathlib.Core.Path.{_≡_};
 ghost use Rattle.reader.specs.User.{userPart};
@@ -8,8 +8,8 @@ ghost use Rattle.reader.specs.User.{userPart};
 pub fn user_part(kind: u64, size: u64, bytes: &[u8]) -> &[u8]
     ensures { λ r. ⌜ now r ≡ userPart kind size (now (bytes .entry)) ⌝ }
 {
-    let answer = read(kind, size, bytes);
-    let rest = answer.rest;
+    let brief = brief(kind, size, bytes);
+    let rest = brief.rest;
     let Rest::From(a) = rest else {
         return &bytes[..0];
     };

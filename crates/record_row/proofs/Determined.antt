@@ -52,6 +52,6 @@ registered-determined κs a x y s t p q = p ∙ sym q
 pub unregistered-determined : Determines 0 unregistered-kinds.ps unregistered-kinds.r unregistered-reads.Post
 unregistered-determined κs a x y s t p q = p ∙ sym q
 
--- the row is the first parameter
-pub write-determined : DeterminesAll 1 write-kinds.ps write-kinds.r (λ κs s. now (s .0)) write-reads.Post
+-- the row is the fourth parameter
+pub write-determined : DeterminesAll 2 write-kinds.ps write-kinds.r (λ κs s. now (s .1 .1 .1 .0)) write-reads.Post
 write-determined κs a x y s t p q = same-left (p ∙ sym q)

@@ -16,12 +16,12 @@ use Rattle.record_row.proofs.RowLaws.{filled, joined, fields-length}
 pub identifier-filled : (e : ℕ) (xs q : List ℕ) → length xs ≡ 16 → q ≡ sets (replicate 17 0) 0 (e ∷ xs) → q ≡ e ∷ xs
 identifier-filled e xs q n h = filled 17 (e ∷ xs) q (omega arith) h
 
-module _ (e : ℕ) (a : RegionWise) (r q : List ℕ) (n : length (a .regions) ≡ most)
-    (h₁ : r ≡ sets (replicate (9 + 19 * most) 0) 0 (e ∷ headFields a)) (h₂ : q ≡ sets r 9 (regionsFields (a .regions))) where
-  pub region-wise-filled : q ≡ e ∷ regionWiseFields a
-  region-wise-filled =
-      filled (9 + 19 * most) (e ∷ regionWiseFields a) q (omega (arith, fields-length (a .regions)))
-      (joined (e ∷ headFields a) (regionsFields (a .regions)) (replicate (9 + 19 * most) 0) r q 9 refl h₁ h₂)
+module _ (e : ℕ) (a : RegionWise) where
+  pub region-wise-long : length (a .regions) ≡ most → length (e ∷ regionWiseFields a) ≡ 9 + 19 * most
+  region-wise-long n = omega (arith, fields-length (a .regions))
+
+  pub region-wise-filled : (q : List ℕ) → length (a .regions) ≡ most → q ≡ sets (replicate (9 + 19 * most) 0) 0 (e ∷ regionWiseFields a) → q ≡ e ∷ regionWiseFields a
+  region-wise-filled q n h = filled (9 + 19 * most) (e ∷ regionWiseFields a) q (region-wise-long n) h
 
 module _ (e : ℕ) (a : Depth) (r₁ r₂ r₃ r₄ r₅ r₆ q : List ℕ) (n : length (a .«depth_nonlinear_representation_model») ≡ mostListed)
     (h₁ : r₁ ≡ sets (replicate (32 + mostListed) 0) 0 (e ∷ presenceFields a)) (h₂ : r₂ ≡ sets r₁ 7 (valueFields (a .«z_near»)))

@@ -1,13 +1,22 @@
--- What is handed out, by the room, and by the message and the outcome of an answer.
+-- What is handed out, by the room, and by the message, the outcome and the kind of an answer.
 -- Assumes nothing.
 use Prim.Native.Nat.{ℕ, _≤_, _<_}
 use mathlib.Core.Path.{_≡_, refl, sym, ap, _∙_}
-use mathlib.Core.List.{List, _∷_}
+use mathlib.Core.List.{List, [], _∷_}
 use borrow.Author.Tests.{le-leb, lt-leb}
+use denote.Enum.Declared.{tagOf}
+use types.Run.{OneOf, miss}
 use lib.ListN.{length}
 use lib.Seq.{sets}
+use Rattle.bits.specs.Refusals.{refusalNumber}
 use Rattle.bits.specs.declared.refusal.Refusal.{Refusal}
-use Rattle.answers.specs.Answer.{answerNumber}
+use Rattle.format.specs.Whole.{Reading, taken, setAside, refused}
+use Rattle.kind_region_wise.specs.declared.RegionWise.{RegionWise}
+use Rattle.kind_depth.specs.declared.Depth.{Depth}
+use Rattle.kind_user_data.specs.declared.unregistered.Unregistered.{Unregistered}
+use Rattle.answers.proofs.Outcome.{the-type}
+use Rattle.answers.specs.Answer.{outcomeNumber, answerFor}
+use Rattle.answers.specs.declared.kind.Kind.the-variants as kinds
 use Rattle.answers.specs.declared.Answer.{Answer}
 use Rattle.answers.specs.declared.Outcome.{Outcome}
 use Rattle.answers.specs.declared.Outcome.the-variants.{Taken, SetAside, Refused}
@@ -15,9 +24,13 @@ use Rattle.answers.specs.declared.Beside.{Beside}
 use Rattle.answers.specs.declared.kind.LastingMessage.{LastingMessage}
 use Rattle.answers.specs.declared.kind.PassingMessage.{PassingMessage}
 use Rattle.answers.specs.declared.kind.Message.{Message}
+use Rattle.messages.specs.Beside.{regionWiseOf, depthOf, unregisteredOf}
+use Rattle.messages.specs.declared.RegionWiseAnswer.{RegionWiseAnswer}
+use Rattle.messages.specs.declared.DepthAnswer.{DepthAnswer}
+use Rattle.messages.specs.declared.UnregisteredAnswer.{UnregisteredAnswer}
 use Rattle.lent.specs.Lent.{Left, left}
 use Rattle.lent.proofs.Stores.{sets-front}
-use Rattle.record_row.specs.Fields.{lastingFields, passingFields, recordFields}
+use Rattle.record_row.specs.Fields.{regionWiseFields, depthFields, lastingFields, passingFields, recordFields}
 use Rattle.record_row.specs.Handing.{fieldsOf, handedOver, wroteBy, wroteFields}
 
 -- the lent row l, too short for xs or not
@@ -46,17 +59,64 @@ pub by-message : (n : ℕ) (a : Answer) {m : Message} (l : List ℕ) {o : Left �
 unfolding fieldsOf
 by-message n a l e = by-fields n (λ y. a .extension ∷ recordFields (a .beside) y) _ l e refl
 
--- n is the number of a
-module _ (a : Answer) (n : ℕ) (l : List ℕ) (number : n ≡ answerNumber a) where
-  outcome-is : {x : Outcome} → a .outcome ≡ x → wroteBy x a l ≡ wroteFields a l
+-- n is the number of the outcome o, and xs are the fields
+module _ (o : Outcome) (n : ℕ) (xs l : List ℕ) (number : n ≡ outcomeNumber o) where
+  -- the outcomes that are no refusal, by their places
+  abbrev given : List ℕ
+  given = 0 ∷ 1 ∷ []
+
+  wrote : (x : Outcome) → OneOf given (tagOf the-type x) → handedOver (outcomeNumber x) xs l ≡ wroteBy x xs l
+  unfolding wroteBy
+  wrote Taken h = refl
+  wrote SetAside h = refl
+  wrote (Refused why) h = absurd (miss given 2 tt h)
+
+  pub by-given : {ys : List ℕ} {r : Left ℕ} → OneOf given (tagOf the-type o) → ys ≡ xs → r ≡ handedOver n ys l → r ≡ wroteBy o xs l
+  by-given h f e = e ∙ ap (λ (zs : List ℕ). handedOver n zs l) f ∙ ap (λ (k : ℕ). handedOver k xs l) number ∙ wrote o h
+
+  pub by-refused : {why : Refusal} → o ≡ Refused why → left n l ≡ wroteBy o xs l
+  unfolding wroteBy
+  by-refused e = ap (λ (k : ℕ). left k l) number ∙ rw e
+
+module _ (l : List ℕ) where
+  -- what was read of a kind whose record stands beside its message
+  pub region-wise-wrote : (x : Reading RegionWise) {a : RegionWiseAnswer} {r : Left ℕ} → a ≡ regionWiseOf (answerFor kinds.RegionWise x)
+      → r ≡ wroteBy (a .brief .outcome) (a .brief .extension ∷ regionWiseFields (a .«record»)) l → r ≡ wroteFields (answerFor kinds.RegionWise x) l
+  unfolding wroteFields fieldsOf
+  region-wise-wrote x e h = h ∙ ap (λ (y : RegionWiseAnswer). wroteBy (y .brief .outcome) (y .brief .extension ∷ regionWiseFields (y .«record»)) l) e ∙ go x
+    where
+      go : (x : Reading RegionWise) → let a = answerFor kinds.RegionWise x in wroteBy (a .outcome) (a .extension ∷ regionWiseFields ((regionWiseOf a) .«record»)) l ≡ wroteFields a l
+      go (taken a e) = refl
+      go (setAside a e) = refl
+      go (refused r) = refl
+
+  pub depth-wrote : (x : Reading Depth) {a : DepthAnswer} {r : Left ℕ} → a ≡ depthOf (answerFor kinds.Depth x)
+      → r ≡ wroteBy (a .brief .outcome) (a .brief .extension ∷ depthFields (a .«record»)) l → r ≡ wroteFields (answerFor kinds.Depth x) l
+  unfolding wroteFields fieldsOf
+  depth-wrote x e h = h ∙ ap (λ (y : DepthAnswer). wroteBy (y .brief .outcome) (y .brief .extension ∷ depthFields (y .«record»)) l) e ∙ go x
+    where
+      go : (x : Reading Depth) → let a = answerFor kinds.Depth x in wroteBy (a .outcome) (a .extension ∷ depthFields ((depthOf a) .«record»)) l ≡ wroteFields a l
+      go (taken a e) = refl
+      go (setAside a e) = refl
+      go (refused r) = refl
+
+  pub unregistered-wrote : (x : Reading Unregistered) {a : UnregisteredAnswer} {r : Left ℕ} → a ≡ unregisteredOf (answerFor kinds.Unregistered x)
+      → r ≡ wroteBy (a .brief .outcome) (a .brief .extension ∷ a .«record» .«uuid_iso_iec_11578») l → r ≡ wroteFields (answerFor kinds.Unregistered x) l
+  unfolding wroteFields fieldsOf
+  unregistered-wrote x e h = h ∙ ap (λ (y : UnregisteredAnswer). wroteBy (y .brief .outcome) (y .brief .extension ∷ y .«record» .«uuid_iso_iec_11578») l) e ∙ go x
+    where
+      go : (x : Reading Unregistered) → let a = answerFor kinds.Unregistered x in wroteBy (a .outcome) (a .extension ∷ (unregisteredOf a) .«record» .«uuid_iso_iec_11578») l ≡ wroteFields a l
+      go (taken a e) = refl
+      go (setAside a e) = refl
+      go (refused r) = refl
+
+  -- what was read comes to this answer
+  pub by-answer : {a b : Answer} {r : Left ℕ} → a ≡ b → r ≡ wroteFields a l → r ≡ wroteFields b l
+  by-answer e h = h ∙ ap (λ (x : Answer). wroteFields x l) e
+
+  -- what was not read
+  pub unread : {a b : Answer} {why : Refusal} {n : ℕ} → a ≡ b → b .outcome ≡ Refused why → n ≡ refusalNumber why → left n l ≡ wroteFields a l
   unfolding wroteFields
-  outcome-is e = sym (ap (λ (x : Outcome). wroteBy x a l) e)
-
-  pub by-taken : {o : Left ℕ} → a .outcome ≡ Taken → o ≡ handedOver n (fieldsOf a) l → o ≡ wroteFields a l
-  by-taken e h = h ∙ ap (λ (k : ℕ). handedOver k (fieldsOf a) l) number ∙ outcome-is e
-
-  pub by-aside : {o : Left ℕ} → a .outcome ≡ SetAside → o ≡ handedOver n (fieldsOf a) l → o ≡ wroteFields a l
-  by-aside e h = h ∙ ap (λ (k : ℕ). handedOver k (fieldsOf a) l) number ∙ outcome-is e
-
-  pub by-refused : {why : Refusal} → a .outcome ≡ Refused why → left n l ≡ wroteFields a l
-  by-refused e = ap (λ (k : ℕ). left k l) number ∙ outcome-is e
+  unread {a} {n = n} e h k =
+      let o = ap (λ (x : Answer). x .outcome) e ∙ h in
+      by-refused (a .outcome) n (fieldsOf a) l (k ∙ sym (ap outcomeNumber o)) o

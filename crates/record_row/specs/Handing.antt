@@ -6,7 +6,7 @@ use lib.ListN.{length}
 use Rattle.bits.specs.Choice.{if_then_else_}
 use Rattle.bits.specs.Refusals as refusals
 use Rattle.lent.specs.Lent.{Left, left, over}
-use Rattle.answers.specs.Answer.{answerNumber}
+use Rattle.answers.specs.Answer.{outcomeNumber}
 use Rattle.answers.specs.declared.Answer.{Answer}
 use Rattle.answers.specs.declared.Outcome.{Outcome}
 use Rattle.answers.specs.declared.Outcome.the-variants.{Taken, SetAside, Refused}
@@ -23,10 +23,10 @@ handedOver number fields row =
     if leb (length fields) (length row) then left number (over fields row) else left (refusals.refusalNumber refusals.byRows) row
 
 -- a refusal writes nothing
-abbrev pub wroteBy : Outcome → Answer → List ℕ → Left ℕ
-wroteBy Taken a row = handedOver (answerNumber a) (fieldsOf a) row
-wroteBy SetAside a row = handedOver (answerNumber a) (fieldsOf a) row
-wroteBy (Refused why) a row = left (answerNumber a) row
+unfoldable pub wroteBy : Outcome → List ℕ → List ℕ → Left ℕ
+wroteBy Taken fields row = handedOver (outcomeNumber Taken) fields row
+wroteBy SetAside fields row = handedOver (outcomeNumber SetAside) fields row
+wroteBy (Refused why) fields row = left (outcomeNumber (Refused why)) row
 
 unfoldable pub wroteFields : Answer → List ℕ → Left ℕ
-wroteFields a row = wroteBy (a .outcome) a row
+wroteFields a row = wroteBy (a .outcome) (fieldsOf a) row

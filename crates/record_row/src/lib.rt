@@ -1,4 +1,4 @@
-// The records as rows of numbers, and an answer's in a lent row.
+// The records as rows of numbers, and a payload's in a lent row.
 pub mod handing;
 pub mod record;
 mod row;

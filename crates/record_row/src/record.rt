@@ -2,9 +2,9 @@
 use crate::row::hand;
 use crate::row::put_identifier;
 use crate::row::put_model;
-use answers::Beside;
 use answers::kind::LastingMessage;
 use answers::kind::PassingMessage;
+use bits::refusal::Refusal;
 use kind_alpha::Alpha;
 use kind_depth::Depth;
 use kind_depth::element::DepthValue;
@@ -29,6 +29,7 @@ ghost use lib.ListN.{length};
 ghost use lib.Seq.{sets};
 ghost use Rattle.kind_region_wise.specs.RegionWise.{most};
 ghost use Rattle.bits.specs.Signed.{twosOf};
+ghost use Rattle.answers.specs.Listed.{nothing};
 ghost use Rattle.lent.specs.Lent.{left};
 ghost use Rattle.record_row.specs.Handing.{handedOver};
 ghost use Rattle.record_row.specs.Fields.{framePackingFields, orientationFields, equirectangularFields, rotationFields, alphaFields, registeredFields, stateOf, depthBitsOf, valueFields, depthFields, regionFields, regionsFields, regionWiseFields, lastingFields, passingFields};
@@ -294,8 +295,10 @@ fn put_regions(row: &mut [u64], at: usize, regions: [Region; MOST])
 // The extension count, eight numbers before the regions, and every region's.
 pub const REGION_WISE_FIELDS: usize = 9 + 19 * MOST;
 
-pub fn region_wise(extension: u32, a: RegionWise) -> [u64; REGION_WISE_FIELDS]
-    ensures { λ r. ⌜ r ≡ extension ∷ regionWiseFields a ⌝ }
+// All of them, over the front of a row that has room for them.
+fn put_region_wise(row: &mut [u64], extension: u32, a: RegionWise)
+    requires { ⌜ 9 + 19 * most ≤ length (now row) ⌝ }
+    ensures { λ _. ⌜ now (row .exit) ≡ sets (now (row .entry)) 0 (extension ∷ regionWiseFields a) ⌝ }
 {
     let regions = a.regions;
     let head = [
@@ -309,20 +312,32 @@ pub fn region_wise(extension: u32, a: RegionWise) -> [u64; REGION_WISE_FIELDS]
         a.rwp_packed_picture_width as u64,
         a.rwp_packed_picture_height as u64,
     ];
+    put(row, 0, &head);
+    put_regions(row, 9, regions);
+}
+
+pub fn region_wise(extension: u32, a: RegionWise) -> [u64; REGION_WISE_FIELDS]
+    ensures { λ r. ⌜ r ≡ extension ∷ regionWiseFields a ⌝ }
+{
     let mut r = [0u64; REGION_WISE_FIELDS];
-    put(&mut r, 0, &head);
-    put_regions(&mut r, 9, regions);
+    put_region_wise(&mut r, extension, a);
     r
 }
 
-pub(crate) fn lasting(
-    row: &mut [u64],
-    number: u32,
-    extension: u32,
-    message: LastingMessage,
-    beside: Beside,
-) -> u32
-    ensures { λ r. ⌜ left r (now (row .exit)) ≡ handedOver number (extension ∷ lastingFields beside message) (now (row .entry)) ⌝ }
+// Straight into a lent row: an array of them on the way would be the largest thing on the stack.
+pub(crate) fn hand_regions(row: &mut [u64], number: u32, extension: u32, a: RegionWise) -> u32
+    ensures { λ r. ⌜ left r (now (row .exit)) ≡ handedOver number (extension ∷ regionWiseFields a) (now (row .entry)) ⌝ }
+{
+    if row.len() < REGION_WISE_FIELDS {
+        return Refusal::rows().number();
+    }
+    put_region_wise(row, extension, a);
+    number
+}
+
+// A message with nothing beside it: a record that holds an array is zeros. Here and below.
+pub(crate) fn lasting(row: &mut [u64], number: u32, extension: u32, message: LastingMessage) -> u32
+    ensures { λ r. ⌜ left r (now (row .exit)) ≡ handedOver number (extension ∷ lastingFields nothing message) (now (row .entry)) ⌝ }
 {
     match message {
         LastingMessage::FramePacking(m) => {
@@ -341,21 +356,12 @@ pub(crate) fn lasting(
             let fields = rotation(extension, m);
             hand(row, number, &fields)
         }
-        LastingMessage::RegionWise => {
-            let fields = region_wise(extension, beside.region_wise);
-            hand(row, number, &fields)
-        }
+        LastingMessage::RegionWise => hand_regions(row, number, extension, RegionWise::zero()),
     }
 }
 
-pub(crate) fn passing(
-    row: &mut [u64],
-    number: u32,
-    extension: u32,
-    message: PassingMessage,
-    beside: Beside,
-) -> u32
-    ensures { λ r. ⌜ left r (now (row .exit)) ≡ handedOver number (extension ∷ passingFields beside message) (now (row .entry)) ⌝ }
+pub(crate) fn passing(row: &mut [u64], number: u32, extension: u32, message: PassingMessage) -> u32
+    ensures { λ r. ⌜ left r (now (row .exit)) ≡ handedOver number (extension ∷ passingFields nothing message) (now (row .entry)) ⌝ }
 {
     match message {
         PassingMessage::Alpha(m) => {
@@ -363,7 +369,7 @@ pub(crate) fn passing(
             hand(row, number, &fields)
         }
         PassingMessage::Depth => {
-            let fields = depth(extension, beside.depth);
+            let fields = depth(extension, Depth::zero());
             hand(row, number, &fields)
         }
         PassingMessage::Registered(m) => {
@@ -371,7 +377,7 @@ pub(crate) fn passing(
             hand(row, number, &fields)
         }
         PassingMessage::Unregistered => {
-            let fields = unregistered(extension, beside.unregistered);
+            let fields = unregistered(extension, Unregistered::zero());
             hand(row, number, &fields)
         }
     }

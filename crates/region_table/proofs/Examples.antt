@@ -11,14 +11,15 @@ use Rattle.kind_region_wise.specs.RegionWise.{most, regionTable}
 use Rattle.kind_region_wise.specs.declared.RegionWise.{RegionWise}
 use Rattle.region_table.specs.Rows.{rowsOf, rowCount, tableOf, refuses}
 use Rattle.region_table.specs.declared.rows.Tabled.the-variants.{Rows}
-use Rattle.held.specs.Held.{nothing, noOrientation, noEquirectangular, noRotation, noRegionWise}
+use Rattle.held.specs.Lasting.{orientation, equirectangular, rotation}
+use Rattle.held.specs.Held.{nothing, noneOf}
 use Rattle.held.specs.declared.Held.{Held}
-use Rattle.slots.specs.Slots.{start, slotAt, isOpen, closedSlot}
+use Rattle.slots.specs.Slots.{start, slotAt, isOpen, closedSlot, lifted}
 use Rattle.region_table.specs.Table.{splitOf, tableOfHeld, tableIn}
 
 -- 8 for a slot that is closed
 shut-table : tableIn start 0 1000 ≡ refuses bySlot
-unfolding tableIn start slotAt isOpen closedSlot
+unfolding lifted start slotAt isOpen closedSlot
 shut-table = refl
 
 -- one region, in pictures of 100 by 50 and 31 by 7
@@ -59,9 +60,9 @@ with45 on type matching =
                   «fp_upsampled_aspect_ratio_flag» = 0;
                 };
           };
-      orientation = noOrientation;
-      equirectangular = noEquirectangular;
-      rotation = noRotation;
+      orientation = noneOf orientation;
+      equirectangular = noneOf equirectangular;
+      rotation = noneOf rotation;
       «region_wise» = record { on = 1; value = packing matching };
     }
 
@@ -90,5 +91,5 @@ unflagged = refl
 
 -- nothing of kind 155
 no-155 : tableOfHeld nothing 1000 ≡ refuses byTable
-unfolding tableOfHeld nothing noRegionWise
+unfolding tableOfHeld nothing noneOf
 no-155 = refl

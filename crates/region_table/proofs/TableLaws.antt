@@ -14,17 +14,18 @@ use Rattle.bits.specs.Refusals.{bySlot, byTable}
 use Rattle.bits.proofs.BitLaws.{below as below-or-not}
 use Rattle.kind_region_wise.specs.RegionWise.{most}
 use Rattle.kind_region_wise.specs.declared.RegionWise.{RegionWise}
-use Rattle.region_table.specs.Rows.{Countable, refuses, rowCount, tabledNumber, tabledRows, tableOf, wrote}
+use Rattle.region_table.specs.Rows.{Countable, Table, refuses, rowCount, tabledNumber, tabledRows, tableOf, wrote}
 use Rattle.region_table.specs.RowCases as by-packing
 use Rattle.region_table.specs.declared.rows.Split.{Split}
 use Rattle.region_table.specs.declared.rows.Split.the-variants.{Whole, Beside, Below}
 use Rattle.region_table.proofs.CountLaws.{no-table}
 use Rattle.region_table.proofs.Outcomes.{number-of, count-of, refusal-stays, countable-or-not, region-wise-cases}
-use Rattle.slots.specs.Slots.{Eight, slotAt, isOpen, Shut}
+use Rattle.slots.specs.Slots.{Eight, slotAt, isOpen, closedSlot, lifted, Shut}
 use Rattle.held.specs.declared.Held.{Held}
+use Rattle.slots.specs.declared.Slot.{Slot}
 use Rattle.slots.specs.declared.Slots.{Slots}
-use Rattle.slots.proofs.Laws.{apart, shut-off}
-use Rattle.region_table.specs.Table.{splitOf, tableBy, tableOfHeld, tableIn}
+use Rattle.slots.proofs.Laws.{apart, where-open, where-shut, either, closed-shut, lifted-answer, lifted-same, shut-8}
+use Rattle.region_table.specs.Table.{splitOf, tableBy, tableOfHeld, tabling, tableIn}
 use Rattle.region_table.specs.Cases.{regionWiseOf, typeOf, Splits, whole, beside, below, Makes, NoTable, none, uncounted, unpacked, other, sizeOf, TableCase, shut, missing, few, full}
 use Rattle.region_table.specs.declared.Way.{Way}
 use Rattle.region_table.specs.declared.Way.the-variants.{By, Missing}
@@ -130,72 +131,60 @@ module _ (h : Held) where
   one-split : (x y : Split) → Makes h x → Makes h y → x ≡ y
   one-split x y m k = let p = by-split x (m .splits) in let q = by-split y (k .splits) in cc
 
--- ---- the call
+-- ---- the call on one slot
 
-module _ (s : Slots) (n room : ℕ) where
-  shut-table : isOpen (slotAt s n) ≡ false → tableIn s n room ≡ refuses bySlot
-  unfolding tableIn
-  shut-table o = simp o
+abbrev tableOn : Slot → ℕ → Table
+tableOn x room = tabling room x .1
 
-  open-table : isOpen (slotAt s n) ≡ true → tableIn s n room ≡ tableOfHeld (slotAt s n .held) room
-  unfolding tableIn
-  open-table o = simp o
+module _ (x : Slot) (room : ℕ) where
+  shut-table : isOpen x ≡ false → tableOn x room ≡ refuses bySlot
+  shut-table o = ap (λ (w : Slot × Table). w .1) (where-shut x (refuses bySlot) (x, tableOfHeld (x .held) room) o)
 
-pub cases : (s : Slots) (n room : ℕ) → TableCase s n room (tableIn s n room)
-cases s n room = go (isOpen (slotAt s n)) refl
+  open-table : isOpen x ≡ true → tableOn x room ≡ tableOfHeld (x .held) room
+  open-table o = ap (λ (w : Slot × Table). w .1) (where-open x (refuses bySlot) (x, tableOfHeld (x .held) room) o)
+
+pub cases : (x : Slot) (room : ℕ) → TableCase x room (tableOn x room)
+cases x room = go (isOpen x) refl
   where
     held : Held
-    held = slotAt s n .held
+    held = x .held
 
-    of-packing : isOpen (slotAt s n) ≡ true → (split : Split) → Makes held split → by-packing.RegionWiseCase (regionWiseOf held) split room (tableOf (regionWiseOf held) split room)
-        → TableCase s n room (tableIn s n room)
+    of-packing : isOpen x ≡ true → (split : Split) → Makes held split → by-packing.RegionWiseCase (regionWiseOf held) split room (tableOf (regionWiseOf held) split room)
+        → TableCase x room (tableOn x room)
     of-packing o split m (by-packing.none u e) = absurd (countable-or-not (regionWiseOf held) (m .counted) u)
-    of-packing o split m (by-packing.few k l e) = few o split m l (open-table s n room o ∙ made held split m room ∙ e)
-    of-packing o split m (by-packing.full k l e) = full o split m l (open-table s n room o ∙ made held split m room ∙ e)
+    of-packing o split m (by-packing.few k l e) = few o split m l (open-table x room o ∙ made held split m room ∙ e)
+    of-packing o split m (by-packing.full k l e) = full o split m l (open-table x room o ∙ made held split m room ∙ e)
 
-    either : isOpen (slotAt s n) ≡ true → NoTable held ⊎ ((split : Split) × Makes held split) → TableCase s n room (tableIn s n room)
-    either o (inl u) = missing o u (open-table s n room o ∙ unmade held u room)
+    either : isOpen x ≡ true → NoTable held ⊎ ((split : Split) × Makes held split) → TableCase x room (tableOn x room)
+    either o (inl u) = missing o u (open-table x room o ∙ unmade held u room)
     either o (inr m) = of-packing o (m .0) (m .1) (region-wise-cases (regionWiseOf held) (m .0) room)
 
-    go : (b : Bool) → isOpen (slotAt s n) ≡ b → TableCase s n room (tableIn s n room)
+    go : (b : Bool) → isOpen x ≡ b → TableCase x room (tableOn x room)
     go true o = either o (which held)
-    go false o = shut o (shut-table s n room o)
-
--- 8 exactly where there is no such slot or it is closed
-pub when-8 : (s : Slots) (n room : ℕ) → Eight s → (tabledNumber (tableIn s n room .answer) ≡ 8) ↔ Shut s n
-when-8 s n room eight = go (cases s n room)
-  where
-    on : isOpen (slotAt s n) ≡ true → Shut s n → ⊥
-    on o d = apart o (shut-off s n eight d)
-
-    go : TableCase s n room (tableIn s n room) → (tabledNumber (tableIn s n room .answer) ≡ 8) ↔ Shut s n
-    go (shut o e) = (λ q. inr o, λ d. number-of e)
-    go (missing o u e) = (λ q. absurd (omega (arith, number-of e)), λ d. absurd (on o d))
-    go (few o split m l e) = (λ q. absurd (omega (arith, number-of e)), λ d. absurd (on o d))
-    go (full o split m l e) = (λ q. absurd (omega (arith, number-of e)), λ d. absurd (on o d))
+    go false o = shut o (shut-table x room o)
 
 -- 9 exactly where it is open and there is no table of what it holds
-pub when-9 : (s : Slots) (n room : ℕ)
-    → (tabledNumber (tableIn s n room .answer) ≡ 9) ↔ ((isOpen (slotAt s n) ≡ true) × NoTable (slotAt s n .held))
-when-9 s n room = go (cases s n room)
+pub when-9 : (x : Slot) (room : ℕ)
+    → (tabledNumber (tableOn x room .answer) ≡ 9) ↔ ((isOpen x ≡ true) × NoTable (x .held))
+when-9 x room = go (cases x room)
   where
-    go : TableCase s n room (tableIn s n room) → (tabledNumber (tableIn s n room .answer) ≡ 9) ↔ ((isOpen (slotAt s n) ≡ true) × NoTable (slotAt s n .held))
+    go : TableCase x room (tableOn x room) → (tabledNumber (tableOn x room .answer) ≡ 9) ↔ ((isOpen x ≡ true) × NoTable (x .held))
     go (shut o e) = (λ q. absurd (omega (arith, number-of e)), λ v. absurd (apart (v .0) o))
     go (missing o u e) = (λ q. (o, u), λ v. number-of e)
-    go (few o split m l e) = (λ q. absurd (omega (arith, number-of e)), λ v. absurd (not-both (slotAt s n .held) (v .1) split m))
-    go (full o split m l e) = (λ q. absurd (omega (arith, number-of e)), λ v. absurd (not-both (slotAt s n .held) (v .1) split m))
+    go (few o split m l e) = (λ q. absurd (omega (arith, number-of e)), λ v. absurd (not-both (x .held) (v .1) split m))
+    go (full o split m l e) = (λ q. absurd (omega (arith, number-of e)), λ v. absurd (not-both (x .held) (v .1) split m))
 
 -- 10 exactly where there is one, which does not fit
-pub when-10 : (s : Slots) (n room : ℕ)
-    → (tabledNumber (tableIn s n room .answer) ≡ 10)
-    ↔ ((isOpen (slotAt s n) ≡ true) × ((split : Split) × Makes (slotAt s n .held) split × (room < sizeOf (slotAt s n .held) split)))
-when-10 s n room = go (cases s n room)
+pub when-10 : (x : Slot) (room : ℕ)
+    → (tabledNumber (tableOn x room .answer) ≡ 10)
+    ↔ ((isOpen x ≡ true) × ((split : Split) × Makes (x .held) split × (room < sizeOf (x .held) split)))
+when-10 x room = go (cases x room)
   where
     held : Held
-    held = slotAt s n .held
+    held = x .held
 
-    go : TableCase s n room (tableIn s n room)
-        → (tabledNumber (tableIn s n room .answer) ≡ 10) ↔ ((isOpen (slotAt s n) ≡ true) × ((split : Split) × Makes held split × (room < sizeOf held split)))
+    go : TableCase x room (tableOn x room)
+        → (tabledNumber (tableOn x room .answer) ≡ 10) ↔ ((isOpen x ≡ true) × ((split : Split) × Makes held split × (room < sizeOf held split)))
     go (shut o e) = (λ q. absurd (omega (arith, number-of e)), λ v. absurd (apart (v .0) o))
     go (missing o u e) = (λ q. absurd (omega (arith, number-of e)), λ v. absurd (not-both held u (v .1 .0) (v .1 .1)))
     go (few o split m l e) = (λ q. (o, (split, m, l)), λ v. number-of e)
@@ -203,20 +192,20 @@ when-10 s n room = go (cases s n room)
         (λ q. absurd (omega (arith, number-of e)), λ v. absurd (omega (arith, ap (sizeOf held) (one-split held split (v .1 .0) m (v .1 .1)), v .1 .2)))
 
 -- 0 with `count` rows exactly where there is one, it fits, and `count` is how many they are
-pub when-0 : (s : Slots) (n room count : ℕ)
-    → ((tabledNumber (tableIn s n room .answer) ≡ 0) × (tabledRows (tableIn s n room .answer) ≡ count))
-    ↔ ((isOpen (slotAt s n) ≡ true)
-    × ((split : Split) × Makes (slotAt s n .held) split × (sizeOf (slotAt s n .held) split ≤ room) × (count ≡ rowCount (regionWiseOf (slotAt s n .held)) split)))
-when-0 s n room count = go (cases s n room)
+pub when-0 : (x : Slot) (room count : ℕ)
+    → ((tabledNumber (tableOn x room .answer) ≡ 0) × (tabledRows (tableOn x room .answer) ≡ count))
+    ↔ ((isOpen x ≡ true)
+    × ((split : Split) × Makes (x .held) split × (sizeOf (x .held) split ≤ room) × (count ≡ rowCount (regionWiseOf (x .held)) split)))
+when-0 x room count = go (cases x room)
   where
     held : Held
-    held = slotAt s n .held
+    held = x .held
 
     Right : Type 0
-    Right = (isOpen (slotAt s n) ≡ true) × ((split : Split) × Makes held split × (sizeOf held split ≤ room) × (count ≡ rowCount (regionWiseOf held) split))
+    Right = (isOpen x ≡ true) × ((split : Split) × Makes held split × (sizeOf held split ≤ room) × (count ≡ rowCount (regionWiseOf held) split))
 
-    go : TableCase s n room (tableIn s n room)
-        → ((tabledNumber (tableIn s n room .answer) ≡ 0) × (tabledRows (tableIn s n room .answer) ≡ count)) ↔ Right
+    go : TableCase x room (tableOn x room)
+        → ((tabledNumber (tableOn x room .answer) ≡ 0) × (tabledRows (tableOn x room .answer) ≡ count)) ↔ Right
     go (shut o e) = (λ q. absurd (omega (arith, number-of e, q .0)), λ v. absurd (apart (v .0) o))
     go (missing o u e) = (λ q. absurd (omega (arith, number-of e, q .0)), λ v. absurd (not-both held u (v .1 .0) (v .1 .1)))
     go (few o split m l e) =
@@ -227,26 +216,52 @@ when-0 s n room count = go (cases s n room)
         again v = ap (rowCount (regionWiseOf held)) (one-split held split (v .1 .0) m (v .1 .1)) ∙ sym (v .1 .3)
 
 -- there is no other number
-pub covered : (s : Slots) (n room : ℕ)
-    → (tabledNumber (tableIn s n room .answer) ≡ 0)
-    ⊎ ((tabledNumber (tableIn s n room .answer) ≡ 8) ⊎ ((tabledNumber (tableIn s n room .answer) ≡ 9) ⊎ (tabledNumber (tableIn s n room .answer) ≡ 10)))
-covered s n room = go (cases s n room)
+pub covered : (x : Slot) (room : ℕ)
+    → (tabledNumber (tableOn x room .answer) ≡ 0)
+    ⊎ ((tabledNumber (tableOn x room .answer) ≡ 8) ⊎ ((tabledNumber (tableOn x room .answer) ≡ 9) ⊎ (tabledNumber (tableOn x room .answer) ≡ 10)))
+covered x room = go (cases x room)
   where
-    go : TableCase s n room (tableIn s n room)
-        → (tabledNumber (tableIn s n room .answer) ≡ 0)
-        ⊎ ((tabledNumber (tableIn s n room .answer) ≡ 8) ⊎ ((tabledNumber (tableIn s n room .answer) ≡ 9) ⊎ (tabledNumber (tableIn s n room .answer) ≡ 10)))
+    go : TableCase x room (tableOn x room)
+        → (tabledNumber (tableOn x room .answer) ≡ 0)
+        ⊎ ((tabledNumber (tableOn x room .answer) ≡ 8) ⊎ ((tabledNumber (tableOn x room .answer) ≡ 9) ⊎ (tabledNumber (tableOn x room .answer) ≡ 10)))
     go (shut o e) = inr (inl (number-of e))
     go (missing o u e) = inr (inr (inl (number-of e)))
     go (few o split m l e) = inr (inr (inr (number-of e)))
     go (full o split m l e) = inl (number-of e)
 
 -- a refusal writes nothing
-pub refused-stays : (s : Slots) (n : ℕ) (lent : List ℕ) → tabledNumber (tableIn s n (length lent) .answer) ≢ 0
-    → wrote (tableIn s n (length lent)) lent .lent ≡ lent
-refused-stays s n lent q = go (cases s n (length lent))
+pub refused-stays : (x : Slot) (lent : List ℕ) → tabledNumber (tableOn x (length lent) .answer) ≢ 0
+    → wrote (tableOn x (length lent)) lent .lent ≡ lent
+refused-stays x lent q = go (cases x (length lent))
   where
-    go : TableCase s n (length lent) (tableIn s n (length lent)) → wrote (tableIn s n (length lent)) lent .lent ≡ lent
+    go : TableCase x (length lent) (tableOn x (length lent)) → wrote (tableOn x (length lent)) lent .lent ≡ lent
     go (shut o e) = refusal-stays lent e
     go (missing o u e) = refusal-stays lent e
     go (few o split m l e) = refusal-stays lent e
     go (full o split m l e) = absurd (q (number-of e))
+
+-- ---- on slot n of the eight
+
+-- past the eighth it is the call on a closed slot
+pub on-slot : (s : Slots) (n room : ℕ) → Eight s → tableIn s n room ≡ tableOn (slotAt s n) room
+on-slot s n room e = lifted-answer (tabling room) (refuses bySlot) s n e (shut-table closedSlot room closed-shut)
+
+not-8 : (h : Held) (room : ℕ) → tabledNumber (tableOfHeld h room .answer) ≢ 8
+not-8 h room q = go (which h)
+  where
+    go : NoTable h ⊎ ((split : Split) × Makes h split) → ⊥
+    go (inl u) = omega (arith, number-of (unmade h u room))
+    go (inr m) = of-packing (region-wise-cases (regionWiseOf h) (m .0) room)
+      where
+        of-packing : by-packing.RegionWiseCase (regionWiseOf h) (m .0) room (tableOf (regionWiseOf h) (m .0) room) → ⊥
+        of-packing (by-packing.none u e) = omega (arith, number-of (made h (m .0) (m .1) room ∙ e))
+        of-packing (by-packing.few k l e) = omega (arith, number-of (made h (m .0) (m .1) room ∙ e))
+        of-packing (by-packing.full k l e) = omega (arith, number-of (made h (m .0) (m .1) room ∙ e))
+
+-- 8 exactly where there is no such slot or it is closed
+pub when-8 : (room : ℕ) (s : Slots) (n : ℕ) → Eight s → (tabledNumber (tableIn s n room .answer) ≡ 8) ↔ Shut s n
+when-8 room = shut-8 (λ (t : Table). tabledNumber (t .answer)) (refuses bySlot) (λ x. (x, tableOfHeld (x .held) room)) refl (λ x. not-8 (x .held) room)
+
+-- the slots stay
+pub table-stays : (s : Slots) (n room : ℕ) → lifted (tabling room) (refuses bySlot) s n .0 ≡ s
+table-stays s n room = lifted-same (tabling room) (refuses bySlot) s n (either (slotAt s n) _ _ (λ w. w .0 ≡ slotAt s n) (λ o. refl) (λ o. refl))

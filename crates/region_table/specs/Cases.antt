@@ -10,8 +10,8 @@ use Rattle.region_table.specs.declared.rows.Split.{Split}
 use Rattle.region_table.specs.declared.rows.Split.the-variants.{Whole, Beside, Below}
 use Rattle.region_table.specs.declared.rows.Tabled.the-variants.{Rows}
 use Rattle.held.specs.declared.Held.{Held}
-use Rattle.slots.specs.Slots.{slotAt, isOpen}
-use Rattle.slots.specs.declared.Slots.{Slots}
+use Rattle.slots.specs.Slots.{isOpen}
+use Rattle.slots.specs.declared.Slot.{Slot}
 
 -- ---- what is held
 
@@ -49,12 +49,12 @@ pub data NoTable (h : Held) : Type 0 where
 abbrev pub sizeOf : Held → Split → ℕ
 sizeOf h split = 9 * rowCount (regionWiseOf h) split
 
--- ---- the call: t is what it comes to where `room` numbers are lent
+-- ---- the call on one slot: t is what it comes to where `room` numbers are lent
 
-pub data TableCase (s : Slots) (n room : ℕ) (t : Table) : Type 0 where
-  shut : isOpen (slotAt s n) ≡ false → t ≡ refuses bySlot → TableCase s n room t
-  missing : isOpen (slotAt s n) ≡ true → NoTable (slotAt s n .held) → t ≡ refuses byTable → TableCase s n room t
-  few : isOpen (slotAt s n) ≡ true → (split : Split) → Makes (slotAt s n .held) split → room < sizeOf (slotAt s n .held) split
-      → t ≡ refuses byRows → TableCase s n room t
-  full : isOpen (slotAt s n) ≡ true → (split : Split) → Makes (slotAt s n .held) split → sizeOf (slotAt s n .held) split ≤ room
-      → t ≡ record { answer = Rows (rowCount (regionWiseOf (slotAt s n .held)) split); rows = rowsOf (regionWiseOf (slotAt s n .held)) split } → TableCase s n room t
+pub data TableCase (x : Slot) (room : ℕ) (t : Table) : Type 0 where
+  shut : isOpen x ≡ false → t ≡ refuses bySlot → TableCase x room t
+  missing : isOpen x ≡ true → NoTable (x .held) → t ≡ refuses byTable → TableCase x room t
+  few : isOpen x ≡ true → (split : Split) → Makes (x .held) split → room < sizeOf (x .held) split
+      → t ≡ refuses byRows → TableCase x room t
+  full : isOpen x ≡ true → (split : Split) → Makes (x .held) split → sizeOf (x .held) split ≤ room
+      → t ≡ record { answer = Rows (rowCount (regionWiseOf (x .held)) split); rows = rowsOf (regionWiseOf (x .held)) split } → TableCase x room t

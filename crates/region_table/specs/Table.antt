@@ -6,9 +6,10 @@ use Rattle.kind_region_wise.specs.declared.RegionWise.{RegionWise}
 use Rattle.region_table.specs.Rows.{Table, refuses, tableOf}
 use Rattle.region_table.specs.declared.rows.Split.the-variants.{Whole, Beside, Below}
 use Rattle.bits.specs.Choice.{if_then_else_}
-use Rattle.slots.specs.Slots.{slotAt, isOpen}
+use Rattle.slots.specs.Slots.{whenOpen, lifted}
 use Rattle.held.specs.declared.Held.{Held}
 use Rattle.held.specs.declared.HeldFramePacking.{HeldFramePacking}
+use Rattle.slots.specs.declared.Slot.{Slot}
 use Rattle.slots.specs.declared.Slots.{Slots}
 use Rattle.region_table.specs.declared.Way.{Way}
 use Rattle.region_table.specs.declared.Way.the-variants.{By, Missing}
@@ -33,7 +34,10 @@ tableOfHeld h room =
     then tableBy (h .«region_wise» .value) (splitOf (h .«region_wise» .value .«rwp_constituent_picture_matching_flag») (h .«frame_packing»)) room
     else refuses byTable
 
-unfoldable pub tableIn : Slots → ℕ → ℕ → Table
-tableIn s n room =
-    let here = slotAt s n in
-    if isOpen here then tableOfHeld (here .held) room else refuses bySlot
+-- on one slot: 8, else the table of what it holds; the slot stays
+abbrev pub tabling : ℕ → Slot → Slot × Table
+tabling room x = whenOpen x (refuses bySlot) (x, tableOfHeld (x .held) room)
+
+-- on slot n of the eight
+abbrev pub tableIn : Slots → ℕ → ℕ → Table
+tableIn s n room = lifted (tabling room) (refuses bySlot) s n .1

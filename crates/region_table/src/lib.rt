@@ -6,12 +6,13 @@ use crate::rows::Tabled;
 use bits::refusal::Refusal;
 use held::Held;
 use held::HeldFramePacking;
+use slots::Slot;
 use slots::Slots;
 ghost use mathlib.Core.Path.{_≡_};
 ghost use lib.ListN.{length};
 ghost use Rattle.lent.specs.Lent.{left};
 ghost use Rattle.region_table.specs.Rows.{wrote};
-ghost use Rattle.region_table.specs.Table.{splitOf, tableOfHeld, tableIn};
+ghost use Rattle.region_table.specs.Table.{splitOf, tableOfHeld, tabling, tableIn};
 
 // How the rows are split, where a table can be made.
 enum Way {
@@ -39,7 +40,7 @@ fn split_of(matching: u8, packing: HeldFramePacking) -> Way
 }
 
 // The table of what is held.
-fn table_of(held: Held, lent: &mut [u64]) -> Tabled
+pub fn table_of(held: Held, lent: &mut [u64]) -> Tabled
     ensures { λ r. ⌜ left r (now (lent .exit)) ≡ wrote (tableOfHeld held (length (now (lent .entry)))) (now (lent .entry)) ⌝ }
 {
     let region_wise = held.region_wise;
@@ -55,14 +56,19 @@ fn table_of(held: Held, lent: &mut [u64]) -> Tabled
     rows::write(value, split, lent)
 }
 
-// A refusal writes nothing, and the numbers past the rows stay.
-pub fn table(slots: Slots, n: u64, lent: &mut [u64]) -> Tabled
-    ensures { λ r. ⌜ left r (now (lent .exit)) ≡ wrote (tableIn slots n (length (now (lent .entry)))) (now (lent .entry)) ⌝ }
+// A refusal writes nothing, and the numbers past the rows stay; here and below.
+pub fn table_slot(here: Slot, lent: &mut [u64]) -> Tabled
+    ensures { λ r. ⌜ left r (now (lent .exit)) ≡ wrote (tabling (length (now (lent .entry))) here .1) (now (lent .entry)) ⌝ }
 {
-    let here = slots.slot(n);
     if here.is_open() {
         let held = here.held;
         return table_of(held, lent);
     }
     Tabled::Refused(Refusal::slot())
+}
+
+pub fn table(slots: Slots, n: u64, lent: &mut [u64]) -> Tabled
+    ensures { λ r. ⌜ left r (now (lent .exit)) ≡ wrote (tableIn slots n (length (now (lent .entry)))) (now (lent .entry)) ⌝ }
+{
+    table_slot(slots.slot(n), lent)
 }

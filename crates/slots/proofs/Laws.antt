@@ -1,46 +1,24 @@
--- What the layers above know of the slots: of reading and replacing one, and of each call its answer, what it leaves at its
--- slot, that it leaves the others, and where it is refused.
+-- What the layers above know of the slots: of one slot and the calls on it, of reading and replacing one of the eight, and of a call on one
+-- that is lifted to the eight: its answer, what it leaves at its slot, that it leaves the others, and where it is refused.
 -- Assumes nothing.
 use Prim.Native.Nat.{ℕ, zero, suc, _≤_, _<_}
 use native.Mathlib.Omega.{arith}
 use mathlib.Core.Bool.{Bool, true, false}
-use mathlib.Core.Path.{_≡_, refl, sym, _∙_}
-use mathlib.Core.Logic.{_≢_, _↔_, inr, ⊎-elim}
+use mathlib.Core.Path.{_≡_, refl, sym, ap, _∙_}
+use mathlib.Core.Logic.{_≢_, _↔_, _⊎_, inl, inr, ⊎-elim}
 use lib.Dec.{ltb}
-use lib.ListN.{length-set, getD, replicate, List·getD-eq-default}
-use lib.Seq.{getD-set-same, getD-set-other}
-use borrow.Author.Tests.{lt-ltb, le-ltb, ltb-false}
-use Rattle.bits.specs.Refusals.{bySlot}
+use lib.ListN.{length-set, getD, set, replicate, List·getD-eq-default}
+use lib.Seq.{getD-set-same, getD-set-other, set-getD}
+use borrow.Author.Tests.{lt-ltb, le-ltb}
 use Rattle.bits.proofs.BitLaws.{below}
-use Rattle.bits.specs.declared.refusal.Refusal.{Refusal}
-use Rattle.held.specs.Held.{nothing, kept}
 use Rattle.bits.specs.Choice.{if_then_else_}
-use Rattle.slots.specs.Slots.{
-  callNumber,
-  freshSlot,
-  closedSlot,
-  isOpen,
-  holding,
-  start,
-  Eight,
-  slotAt,
-  withSlot,
-  Shut,
-  ButFor,
-  done,
-  refused,
-  replaced,
-  opened,
-  closed,
-  sequenced,
-  _showing_,
-  pictured,
-}
+use Rattle.held.specs.Held.{nothing, kept}
+use Rattle.slots.specs.Slots.{callNumber, refused, freshSlot, closedSlot, isOpen, holding, whenOpen, opening, closing, sequencing, picturing, start, Eight, slotAt, withSlot, lifted, Shut, ButFor}
 use Rattle.held.specs.declared.Held.{Held}
 use Rattle.slots.specs.declared.Slot.{Slot}
 use Rattle.slots.specs.declared.Slots.{Slots}
 use Rattle.slots.specs.declared.Answer.{Answer}
-use Rattle.slots.specs.declared.Answer.the-variants.{Done, Refused}
+use Rattle.slots.specs.declared.Answer.the-variants.{Done}
 use Rattle.slots.proofs.Entries.{getD-in}
 
 -- ---- one slot
@@ -69,6 +47,28 @@ pub holding-holds : (x : Slot) (h : Held) → holding x h .held ≡ h
 unfolding holding
 holding-holds x h = refl
 
+pub holding-same : (x : Slot) → holding x (x .held) ≡ x
+unfolding holding
+holding-same x = refl
+
+pub apart : {b : Bool} → b ≡ true → b ≡ false → ⊥
+apart t f = let z : _≡_ {A = ℕ} 0 1 = cc in omega arith
+
+-- a call on a slot that must be open: either it is, or the slot stays and the call is refused
+module _ {A : Type 0} (x : Slot) (shut : A) (acted : Slot × A) where
+  pub where-open : isOpen x ≡ true → whenOpen x shut acted ≡ acted
+  where-open o = rw o
+
+  pub where-shut : isOpen x ≡ false → whenOpen x shut acted ≡ (x, shut)
+  where-shut o = rw o
+
+  pub either : (P : Slot × A → Type 0) → (isOpen x ≡ true → P acted) → (isOpen x ≡ false → P (x, shut)) → P (whenOpen x shut acted)
+  either P f g = go (isOpen x) refl
+    where
+      go : (b : Bool) → isOpen x ≡ b → P (if b then acted else (x, shut))
+      go true o = f o
+      go false o = g o
+
 -- ---- reading a slot and replacing it
 
 pub slot-past : (s : Slots) (n : ℕ) → Eight s → 8 ≤ n → slotAt s n ≡ closedSlot
@@ -92,6 +92,10 @@ with-eight : (s : Slots) (n : ℕ) (x : Slot) → Eight s → Eight (withSlot s 
 unfolding withSlot
 with-eight s n x e = length-set (s .slots) n x ∙ e
 
+pub with-same : (s : Slots) (n : ℕ) → withSlot s n (slotAt s n) ≡ s
+unfolding withSlot slotAt
+with-same s n = ap (λ xs. record { slots = xs }) (set-getD (s .slots) n closedSlot)
+
 pub start-eight : Eight start
 unfolding start
 start-eight = refl
@@ -105,145 +109,105 @@ pub start-closed : (n : ℕ) → slotAt start n ≡ closedSlot
 unfolding slotAt start
 start-closed n = replicate-all 8 n closedSlot
 
--- ---- 8: there is no such slot, or it is closed
-
 pub shut-past : (s : Slots) (n : ℕ) → Eight s → 8 ≤ n → isOpen (slotAt s n) ≡ false
 shut-past s n e h = rw (slot-past s n e h) closed-shut
 
 pub shut-off : (s : Slots) (n : ℕ) → Eight s → Shut s n → isOpen (slotAt s n) ≡ false
 shut-off s n e h = ⊎-elim (shut-past s n e) (λ o. o) h
 
-pub apart : {b : Bool} → b ≡ true → b ≡ false → ⊥
-apart t f = let z : _≡_ {A = ℕ} 0 1 = cc in omega arith
+-- ---- a call on one slot, lifted to the eight
 
-open-within : (s : Slots) (n : ℕ) → Eight s → isOpen (slotAt s n) ≡ true → n < 8
-open-within s n e o = ⊎-elim (λ (l : n < 8). l) (λ (l : 8 ≤ n). absurd (apart o (shut-past s n e l))) (below n 8)
+module _ {A : Type 0} (call : Slot → Slot × A) (missing : A) (s : Slots) (n : ℕ) where
+  pub lifted-within : n < 8 → lifted call missing s n ≡ (withSlot s n (call (slotAt s n) .0), call (slotAt s n) .1)
+  unfolding lifted
+  lifted-within h = rw (lt-ltb n 8 h)
 
--- ---- what the calls have in common: done where b, else refused
+  pub lifted-past : 8 ≤ n → lifted call missing s n ≡ (s, missing)
+  unfolding lifted
+  lifted-past h = rw (le-ltb n 8 h)
 
-abbrev pub answered : Bool → Answer
-answered b = if b then Done else Refused bySlot
+  -- at its slot it is the call on that slot alone
+  pub lifted-own : Eight s → n < 8 → _≡_ {A = Slot × A} (slotAt (lifted call missing s n .0) n, lifted call missing s n .1) (call (slotAt s n))
+  lifted-own e h = rw (lifted-within h, slot-with s n (call (slotAt s n) .0) e h)
 
-number-if : (b : Bool) → (callNumber (answered b) ≡ 8) ↔ (b ≡ false)
-number-if true = (λ h. absurd (omega arith), λ h. absurd (apart refl h))
-number-if false = (λ h. refl, λ h. refl)
+  -- it changes no other
+  pub lifted-but-for : ButFor n s (lifted call missing s n .0)
+  lifted-but-for = go (below n 8)
+    where
+      go : (n < 8) ⊎ (8 ≤ n) → ButFor n s (lifted call missing s n .0)
+      go (inl h) = rw (lifted-within h) (record { eight = with-eight s n (call (slotAt s n) .0); others = λ m. slot-with-other s n m (call (slotAt s n) .0) })
+      go (inr h) = rw (lifted-past h) (record { eight = λ e. e; others = λ m d. refl })
 
-with-but-for : (s : Slots) (n : ℕ) (x : Slot) → ButFor n s (withSlot s n x)
-with-but-for s n x = record { eight = with-eight s n x; others = λ m. slot-with-other s n m x }
+  -- and none at all where it leaves its own as it was
+  pub lifted-same : call (slotAt s n) .0 ≡ slotAt s n → lifted call missing s n .0 ≡ s
+  lifted-same q = go (below n 8)
+    where
+      go : (n < 8) ⊎ (8 ≤ n) → lifted call missing s n .0 ≡ s
+      go (inl h) = rw (lifted-within h, q) (with-same s n)
+      go (inr h) = rw (lifted-past h)
 
-module _ (s t : Slots) where
-  answer-if : (b : Bool) → (if b then done t else refused s) .answer ≡ answered b
-  answer-if true = refl
-  answer-if false = refl
+  -- its answer, where past the eighth it is that of a closed slot
+  pub lifted-answer : Eight s → call closedSlot .1 ≡ missing → lifted call missing s n .1 ≡ call (slotAt s n) .1
+  lifted-answer e m = go (below n 8)
+    where
+      go : (n < 8) ⊎ (8 ≤ n) → lifted call missing s n .1 ≡ call (slotAt s n) .1
+      go (inl h) = rw (lifted-within h)
+      go (inr h) = rw (lifted-past h, slot-past s n e h) (sym m)
 
-  slots-if : (b : Bool) → (if b then done t else refused s) .slots ≡ (if b then t else s)
-  slots-if true = refl
-  slots-if false = refl
+-- what code leaves that reads slot n, makes the call on it and stores what is left
+pub lifted-stored : {A : Type 0} (call : Slot → Slot × A) (missing : A) (s : Slots) (n : ℕ) (d : Slot) (turned : Slot × A) → Eight s → n < 8
+    → turned ≡ call (getD (s .slots) n d) → (record { slots = set (s .slots) n (turned .0) }, turned .1) ≡ lifted call missing s n
+unfolding withSlot
+lifted-stored call missing s n d turned e h q = rw (lifted-within call missing s n h, q, slot-within s n d e h)
 
-  but-for-if : (n : ℕ) (b : Bool) → ButFor n s t → ButFor n s (if b then t else s)
-  but-for-if n true h = h
-  but-for-if n false h = record { eight = λ e. e; others = λ m d. refl }
+-- the answer in other words, before it is lifted or after
+pub lifted-said : {A B : Type 0} (say : A → B) (call : Slot → Slot × A) (missing : A) (s : Slots) (n : ℕ)
+    → lifted (λ x. (call x .0, say (call x .1))) (say missing) s n ≡ (lifted call missing s n .0, say (lifted call missing s n .1))
+lifted-said say call missing s n = go (below n 8)
+  where
+    go : (n < 8) ⊎ (8 ≤ n) → lifted (λ x. (call x .0, say (call x .1))) (say missing) s n ≡ (lifted call missing s n .0, say (lifted call missing s n .1))
+    go (inl h) = rw (lifted-within (λ x. (call x .0, say (call x .1))) (say missing) s n h, lifted-within call missing s n h)
+    go (inr h) = rw (lifted-past (λ x. (call x .0, say (call x .1))) (say missing) s n h, lifted-past call missing s n h)
 
-  unchanged-if : (b : Bool) (r : Refusal) → answered b ≡ Refused r → (if b then t else s) ≡ s
-  unchanged-if true r h = let z : _≡_ {A = ℕ} 0 1 = cc in absurd (omega arith)
-  unchanged-if false r h = refl
+-- ---- 8: there is no such slot or, but for opening, it is closed
 
--- ---- opening
+pub opened-8 : (s : Slots) (n : ℕ) → (callNumber (lifted opening refused s n .1) ≡ 8) ↔ (8 ≤ n)
+opened-8 s n = go (below n 8)
+  where
+    go : (n < 8) ⊎ (8 ≤ n) → (callNumber (lifted opening refused s n .1) ≡ 8) ↔ (8 ≤ n)
+    go (inl h) = rw (lifted-within opening refused s n h) (λ q. absurd (omega arith), λ g. absurd (omega arith))
+    go (inr h) = rw (lifted-past opening refused s n h) (λ q. h, λ g. refl)
 
-module _ (s : Slots) (n : ℕ) where
-  pub opened-answer : opened s n .answer ≡ answered (ltb n 8)
-  unfolding opened
-  opened-answer = answer-if s (withSlot s n freshSlot) (ltb n 8)
+-- of any call on a slot that must be open, by any number that tells its refusal from what it answers else
+pub shut-8 : {A : Type 0} (number : A → ℕ) (shut : A) (acts : Slot → Slot × A) → number shut ≡ 8 → ((x : Slot) → number (acts x .1) ≢ 8)
+    → (s : Slots) (n : ℕ) → Eight s → (number (lifted (λ x. whenOpen x shut (acts x)) shut s n .1) ≡ 8) ↔ Shut s n
+shut-8 {A} number shut acts is not s n e = (to (below n 8), back)
+  where
+    call : Slot → Slot × A
+    call x = whenOpen x shut (acts x)
 
-  pub opened-slots : opened s n .slots ≡ (if ltb n 8 then withSlot s n freshSlot else s)
-  unfolding opened
-  opened-slots = slots-if s (withSlot s n freshSlot) (ltb n 8)
+    answered : lifted call shut s n .1 ≡ call (slotAt s n) .1
+    answered = lifted-answer call shut s n e (ap (λ (w : Slot × A). w .1) (where-shut closedSlot shut (acts closedSlot) closed-shut))
 
-  pub opened-fresh : Eight s → n < 8 → slotAt (opened s n .slots) n ≡ freshSlot
-  opened-fresh e h = rw (opened-slots, lt-ltb n 8 h) (slot-with s n freshSlot e h)
+    to : (n < 8) ⊎ (8 ≤ n) → number (lifted call shut s n .1) ≡ 8 → Shut s n
+    to (inr h) q = inl h
+    to (inl h) q = go (isOpen (slotAt s n)) refl
+      where
+        go : (b : Bool) → isOpen (slotAt s n) ≡ b → Shut s n
+        go true o = absurd (not (slotAt s n) (ap (λ (w : Slot × A). number (w .1)) (sym (where-open (slotAt s n) shut (acts (slotAt s n)) o)) ∙ sym (ap number answered) ∙ q))
+        go false o = inr o
 
-  pub opened-but-for : ButFor n s (opened s n .slots)
-  opened-but-for = rw opened-slots (but-for-if s _ n (ltb n 8) (with-but-for s n freshSlot))
+    back : Shut s n → number (lifted call shut s n .1) ≡ 8
+    back h = ap number answered ∙ ap (λ (w : Slot × A). number (w .1)) (where-shut (slotAt s n) shut (acts (slotAt s n)) (shut-off s n e h)) ∙ is
 
-  pub opened-unchanged : (r : Refusal) → opened s n .answer ≡ Refused r → opened s n .slots ≡ s
-  opened-unchanged r h = rw opened-slots (unchanged-if s _ (ltb n 8) r (sym opened-answer ∙ h))
+done-not-8 : callNumber Done ≢ 8
+done-not-8 q = omega arith
 
-  pub opened-8 : (callNumber (opened s n .answer) ≡ 8) ↔ (8 ≤ n)
-  opened-8 = rw opened-answer (λ h. ltb-false n 8 (number-if (ltb n 8) .0 h), λ h. number-if (ltb n 8) .1 (le-ltb n 8 h))
+pub closed-8 : (s : Slots) (n : ℕ) → Eight s → (callNumber (lifted closing refused s n .1) ≡ 8) ↔ Shut s n
+closed-8 = shut-8 callNumber refused (λ x. (closedSlot, Done)) refl (λ x. done-not-8)
 
--- ---- closing and a sequence call: `closed s n` is `replaced s n closedSlot`, and `sequenced s n` is `replaced s n freshSlot`
+pub sequenced-8 : (s : Slots) (n : ℕ) → Eight s → (callNumber (lifted sequencing refused s n .1) ≡ 8) ↔ Shut s n
+sequenced-8 = shut-8 callNumber refused (λ x. (freshSlot, Done)) refl (λ x. done-not-8)
 
--- what is left at slot n by a call that replaces an open one by x
-there : (s : Slots) (n : ℕ) (x : Slot) → Eight s → (b : Bool) → isOpen (slotAt s n) ≡ b → slotAt (if b then withSlot s n x else s) n ≡ (if b then x else slotAt s n)
-there s n x e true o = slot-with s n x e (open-within s n e o)
-there s n x e false o = refl
-
-number-shut : (s : Slots) (n : ℕ) → Eight s → (callNumber (answered (isOpen (slotAt s n))) ≡ 8) ↔ Shut s n
-number-shut s n e =
-    (λ h. inr (number-if (isOpen (slotAt s n)) .0 h), λ h. number-if (isOpen (slotAt s n)) .1 (shut-off s n e h))
-
-module _ (s : Slots) (n : ℕ) (x : Slot) where
-  pub replaced-answer : replaced s n x .answer ≡ answered (isOpen (slotAt s n))
-  unfolding replaced
-  replaced-answer = answer-if s (withSlot s n x) (isOpen (slotAt s n))
-
-  pub replaced-slots : replaced s n x .slots ≡ (if isOpen (slotAt s n) then withSlot s n x else s)
-  unfolding replaced
-  replaced-slots = slots-if s (withSlot s n x) (isOpen (slotAt s n))
-
-  pub replaced-there : Eight s → slotAt (replaced s n x .slots) n ≡ (if isOpen (slotAt s n) then x else slotAt s n)
-  replaced-there e = rw replaced-slots (there s n x e (isOpen (slotAt s n)) refl)
-
-  pub replaced-but-for : ButFor n s (replaced s n x .slots)
-  replaced-but-for = rw replaced-slots (but-for-if s _ n (isOpen (slotAt s n)) (with-but-for s n x))
-
-  pub replaced-unchanged : (r : Refusal) → replaced s n x .answer ≡ Refused r → replaced s n x .slots ≡ s
-  replaced-unchanged r h = rw replaced-slots (unchanged-if s _ (isOpen (slotAt s n)) r (sym replaced-answer ∙ h))
-
-  pub replaced-8 : Eight s → (callNumber (replaced s n x .answer) ≡ 8) ↔ Shut s n
-  replaced-8 e = rw replaced-answer (number-shut s n e)
-
--- the same of an open slot
-module _ (s : Slots) (n : ℕ) (e : Eight s) (o : isOpen (slotAt s n) ≡ true) where
-  pub closing-closes : slotAt (closed s n .slots) n ≡ closedSlot
-  closing-closes = rw (replaced-there s n closedSlot e, o)
-
-  pub sequence-clears : slotAt (sequenced s n .slots) n ≡ freshSlot
-  sequence-clears = rw (replaced-there s n freshSlot e, o)
-
--- ---- a picture: but for the records that it answers with, it replaces the slot by what is left of it
-
-abbrev pub after : Slots → ℕ → Slot
-after s n = holding (slotAt s n) (kept (slotAt s n .held))
-
-abbrev pub shown : Slots → ℕ → Held
-shown s n = if isOpen (slotAt s n) then slotAt s n .held else nothing
-
-picture-if : (s t : Slots) (h : Held) (b : Bool) → (if b then done t showing h else refused s showing nothing) ≡ (if b then done t else refused s) showing (if b then h else nothing)
-picture-if s t h true = refl
-picture-if s t h false = refl
-
-module _ (s : Slots) (n : ℕ) where
-  pub pictured-is : pictured s n ≡ replaced s n (after s n) showing shown s n
-  unfolding pictured replaced
-  pictured-is = picture-if s (withSlot s n (after s n)) (slotAt s n .held) (isOpen (slotAt s n))
-
-  pub pictured-there : Eight s → slotAt (pictured s n .slots) n ≡ (if isOpen (slotAt s n) then after s n else slotAt s n)
-  pictured-there e = rw pictured-is (replaced-there s n (after s n) e)
-
-  pub pictured-but-for : ButFor n s (pictured s n .slots)
-  pictured-but-for = rw pictured-is (replaced-but-for s n (after s n))
-
-  pub pictured-unchanged : (r : Refusal) → pictured s n .answer ≡ Refused r → pictured s n .slots ≡ s
-  pictured-unchanged r h = rw pictured-is (replaced-unchanged s n (after s n) r (rw pictured-is at h))
-
-  pub pictured-8 : Eight s → (callNumber (pictured s n .answer) ≡ 8) ↔ Shut s n
-  pictured-8 e = rw pictured-is (replaced-8 s n (after s n) e)
-
--- the same of an open slot
-module _ (s : Slots) (n : ℕ) (o : isOpen (slotAt s n) ≡ true) where
-  pub picture-shows : pictured s n .held ≡ slotAt s n .held
-  picture-shows = rw (pictured-is, o)
-
-  pub picture-leaves : Eight s → slotAt (pictured s n .slots) n ≡ after s n
-  picture-leaves e = rw (pictured-there s n e, o)
+pub pictured-8 : (s : Slots) (n : ℕ) → Eight s → (callNumber (lifted picturing (refused, nothing) s n .1 .0) ≡ 8) ↔ Shut s n
+pictured-8 = shut-8 (λ (w : Answer × Held). callNumber (w .0)) (refused, nothing) (λ x. (holding x (kept (x .held)), (Done, x .held))) refl (λ x. done-not-8)

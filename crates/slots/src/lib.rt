@@ -1,25 +1,26 @@
-// The eight slots, as one value: a call takes them and answers with them as it leaves them. Any value of the type is
-// fine, also one that no call made.
+// One slot and its calls; and the eight, as one value: a call takes them and answers with them as it leaves them. Any value of the types
+// is fine, also one that no call made.
 use bits::refusal::Refusal;
 use held::Held;
 ghost use mathlib.Core.Path.{_≡_};
 ghost use Rattle.slots.specs.Slots.{
   callNumber,
+  refused,
   freshSlot,
   closedSlot,
   isOpen,
   holding,
+  whenOpen,
+  opening,
+  closing,
+  sequencing,
+  picturing,
   start,
   slotAt,
-  withSlot,
-  replaced,
-  opened,
-  closed,
-  sequenced,
-  refused,
-  _showing_,
-  pictured,
+  stay,
+  lifted,
 };
+ghost use Rattle.slots.specs.declared.Answer.the-variants.{Done};
 ghost use Rattle.held.specs.Held.{nothing};
 
 // The answer of a call that reads nothing.
@@ -47,6 +48,19 @@ pub struct Slot {
     pub held: Held,
 }
 
+// An answer, and the slot after the call.
+pub struct Turned {
+    pub answer: Answer,
+    pub slot: Slot,
+}
+
+// An answer, the five held records as they were at the picture, and the slot after it.
+pub struct Shown {
+    pub answer: Answer,
+    pub held: Held,
+    pub slot: Slot,
+}
+
 impl Slot {
     // The state that opening and a sequence call leave, and closing but for its mark.
     pub fn fresh() -> Slot
@@ -56,7 +70,7 @@ impl Slot {
         Slot { open: 1, held }
     }
 
-    fn closed() -> Slot
+    pub fn closed() -> Slot
         ensures { λ r. ⌜ r ≡ closedSlot ⌝ }
     {
         let mut slot = Slot::fresh();
@@ -75,6 +89,52 @@ impl Slot {
     {
         self.held = held;
         self
+    }
+
+    // What closing and a sequence call have in common: 8 unless the slot is open, which then becomes the given one.
+    fn replaced(self, slot: Slot) -> Turned
+        ensures { λ r. ⌜ (r .slot, r .answer) ≡ whenOpen self refused (slot, Done) ⌝ }
+    {
+        if self.is_open() {
+            return Turned {
+                answer: Answer::Done,
+                slot,
+            };
+        }
+        Turned {
+            answer: Answer::Refused(Refusal::slot()),
+            slot: self,
+        }
+    }
+
+    pub fn close(self) -> Turned
+        ensures { λ r. ⌜ (r .slot, r .answer) ≡ closing self ⌝ }
+    {
+        self.replaced(Slot::closed())
+    }
+
+    pub fn sequence(self) -> Turned
+        ensures { λ r. ⌜ (r .slot, r .answer) ≡ sequencing self ⌝ }
+    {
+        self.replaced(Slot::fresh())
+    }
+
+    pub fn picture(self) -> Shown
+        ensures { λ r. ⌜ (r .slot, (r .answer, r .held)) ≡ picturing self ⌝ }
+    {
+        if self.is_open() {
+            let held = self.held;
+            return Shown {
+                answer: Answer::Done,
+                held,
+                slot: self.holding(held.kept()),
+            };
+        }
+        Shown {
+            answer: Answer::Refused(Refusal::slot()),
+            held: Held::nothing(),
+            slot: self,
+        }
     }
 }
 
@@ -112,96 +172,92 @@ impl Slots {
         if 8 <= n {
             return Slot::closed();
         }
-        let at = n as usize;
-        self.slots[at]
-    }
-
-    // The slots with slot n replaced; past the eighth there is none to replace.
-    pub fn with(mut self, n: u64, slot: Slot) -> Slots
-        ensures { λ r. ⌜ r ≡ withSlot self n slot ⌝ }
-    {
-        if 8 <= n {
-            return self;
-        }
-        let at = n as usize;
-        self.slots[at] = slot;
-        self
-    }
-
-    // What closing and a sequence call have in common: 8 unless slot n is open, which then becomes the given one.
-    fn replaced(self, n: u64, slot: Slot) -> Called
-        ensures { λ r. ⌜ r ≡ replaced self n slot ⌝ }
-    {
-        let here = self.slot(n);
-        if here.is_open() {
-            return Called {
-                answer: Answer::Done,
-                slots: self.with(n, slot),
-            };
-        }
-        Called {
-            answer: Answer::Refused(Refusal::slot()),
-            slots: self,
-        }
-    }
-
-    pub fn open(self, n: u64) -> Called
-        ensures { λ r. ⌜ r ≡ opened self n ⌝ }
-    {
-        if n < 8 {
-            return Called {
-                answer: Answer::Done,
-                slots: self.with(n, Slot::fresh()),
-            };
-        }
-        Called {
-            answer: Answer::Refused(Refusal::slot()),
-            slots: self,
-        }
-    }
-
-    pub fn close(self, n: u64) -> Called
-        ensures { λ r. ⌜ r ≡ closed self n ⌝ }
-    {
-        self.replaced(n, Slot::closed())
-    }
-
-    pub fn sequence(self, n: u64) -> Called
-        ensures { λ r. ⌜ r ≡ sequenced self n ⌝ }
-    {
-        self.replaced(n, Slot::fresh())
-    }
-
-    // A picture's refusal: it shows nothing, and every slot stays.
-    fn unshown(self) -> Pictured
-        ensures { λ r. ⌜ r ≡ refused self showing nothing ⌝ }
-    {
-        Pictured {
-            answer: Answer::Refused(Refusal::slot()),
-            held: Held::nothing(),
-            slots: self,
-        }
-    }
-
-    // The slot is read and replaced in place: each call that takes the eight copies them.
-    pub fn picture(mut self, n: u64) -> Pictured
-        ensures { λ r. ⌜ r ≡ pictured self n ⌝ }
-    {
-        if 8 <= n {
-            return self.unshown();
-        }
         let place = n as usize;
-        let here = self.slots[place];
-        if here.is_open() {
-            let held = here.held;
-            let left = held.kept();
-            self.slots[place] = here.holding(left);
+        self.slots[place]
+    }
+
+    // 8: there is no such slot.
+    fn missing(self) -> Called
+        ensures { λ r. ⌜ (r .slots, r .answer) ≡ stay self ⌝ }
+    {
+        Called {
+            answer: Answer::Refused(Refusal::slot()),
+            slots: self,
+        }
+    }
+
+    pub fn open(mut self, n: u64) -> Called
+        ensures { λ r. ⌜ (r .slots, r .answer) ≡ lifted opening refused self n ⌝ }
+    {
+        if 8 <= n {
+            return self.missing();
+        }
+        let at = n as usize;
+        self.slots[at] = Slot::fresh();
+        Called {
+            answer: Answer::Done,
+            slots: self,
+        }
+    }
+
+    pub fn close(mut self, n: u64) -> Called
+        ensures { λ r. ⌜ (r .slots, r .answer) ≡ lifted closing refused self n ⌝ }
+    {
+        if 8 <= n {
+            return self.missing();
+        }
+        let at = n as usize;
+        let here = self.slots[at];
+        let closed = here.close();
+        let answer = closed.answer;
+        let left = closed.slot;
+        self.slots[at] = left;
+        Called {
+            answer,
+            slots: self,
+        }
+    }
+
+    pub fn sequence(mut self, n: u64) -> Called
+        ensures { λ r. ⌜ (r .slots, r .answer) ≡ lifted sequencing refused self n ⌝ }
+    {
+        if 8 <= n {
+            return self.missing();
+        }
+        let at = n as usize;
+        let here = self.slots[at];
+        let cleared = here.sequence();
+        let answer = cleared.answer;
+        let left = cleared.slot;
+        self.slots[at] = left;
+        Called {
+            answer,
+            slots: self,
+        }
+    }
+
+    pub fn picture(mut self, n: u64) -> Pictured
+        ensures { λ r. ⌜ (r .slots, (r .answer, r .held)) ≡ lifted picturing (refused, nothing) self n ⌝ }
+    {
+        if 8 <= n {
+            let none = Held::nothing();
             return Pictured {
-                answer: Answer::Done,
-                held,
+                answer: Answer::Refused(Refusal::slot()),
+                held: none,
                 slots: self,
             };
         }
-        self.unshown()
+        let at = n as usize;
+        let here = self.slots[at];
+        let shown = here.picture();
+        let answer = shown.answer;
+        let held = shown.held;
+        let left = shown.slot;
+        self.slots[at] = left;
+        Pictured {
+            answer,
+            held,
+            slots: self,
+        }
     }
 }

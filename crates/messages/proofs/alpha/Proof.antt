@@ -4,8 +4,9 @@ use mathlib.Core.Path.{refl, ap}
 use mathlib.Core.Bool.{false}
 use borrow.Author.Needs.{needs}
 use Rattle.kind_alpha.specs.Alpha.{outOf}
+use Rattle.answers.specs.Answer.{briefOf}
 use Rattle.answers.specs.declared.kind.Kind.the-variants.{Alpha}
-use Rattle.messages.proofs.Finish.{by-refused, by-plain}
+use Rattle.messages.proofs.Finish.{by-refused, by-finished}
 use Rattle.messages.proofs.alpha.Statement.{statement}
 use Rattle.messages.proofs.alpha.Tie as tie
 
@@ -13,13 +14,13 @@ refused : tie.Need-returns
 refused c =
     let told = c .before .before .enum-told .given .1 in
     rw (c .refused .ensures, c .before .refusal .ensures, told)
-    (by-refused Alpha _ (c .before .before .before .before .read .ensures) (ap outOf told))
+    (ap briefOf (by-refused Alpha _ (c .before .before .before .before .read .ensures) (ap outOf told)))
 
 taken : tie.Need-returns-2
 taken c =
     let known = c .before .before .before .r .given .1 in
     rw (c .finished .ensures, c .before .tail .ensures)
-    (by-plain Alpha _ (c .before .before .before .before .before .read .ensures) (ap outOf known) refl refl false refl)
+    (by-finished Alpha _ (c .before .before .before .before .before .read .ensures) (ap outOf known) refl false refl)
 
 pub alpha-spec : {M : Type 1} → statement M
 alpha-spec =

@@ -6,6 +6,7 @@ use Rattle.format.specs.Reading.{runAt}
 use Rattle.kind_depth.specs.declared.DepthRead.{DepthRead}
 use Rattle.kind_depth.specs.Depth.{depth, depthRead}
 use Rattle.answers.specs.declared.kind.Kind.the-variants.{Depth}
+use Rattle.messages.specs.Beside.{depthOf}
 use Rattle.messages.proofs.Finish.{by-refused, by-taken, went, stood}
 use Rattle.messages.proofs.depth.Statement.{statement}
 use Rattle.messages.proofs.depth.Tie as tie
@@ -15,18 +16,18 @@ refused c =
     let told = c .before .before .enum-told .given .1 in
     let r = c .before .before .before .before in
     rw (c .refused .ensures, c .before .refusal .ensures, told)
-    (by-refused Depth (r .before .before .args .s .now) refl
+    (ap depthOf (by-refused Depth (r .before .before .args .s .now) refl
     (stood depthRead (λ x. x .onward) (λ x. x .«record») (λ a q. refl) (λ a q. refl) (λ r. refl) (runAt depth _ 0)
-    (ap (λ (x : DepthRead). x .onward) (sym (r .read .ensures)) ∙ told)))
+    (ap (λ (x : DepthRead). x .onward) (sym (r .read .ensures)) ∙ told))))
 
 taken : tie.Need-returns-2
 taken c =
     let known = c .before .before .before .before .onward .given .1 in
     let r = c .before .before .before .before .before .before in
-    rw (c .depth .ensures, c .before .tail .ensures, r .read .ensures)
-    (by-taken Depth (r .before .before .args .s .now) refl
+    rw (c .finished .ensures, c .before .tail .ensures, r .read .ensures)
+    (ap depthOf (by-taken Depth (r .before .before .args .s .now) refl
     (went depthRead (λ x. x .onward) (λ x. x .«record») (λ a q. refl) (λ a q. refl) (λ r. refl) (runAt depth _ 0)
-    (ap (λ (x : DepthRead). x .onward) (sym (r .read .ensures)) ∙ known)))
+    (ap (λ (x : DepthRead). x .onward) (sym (r .read .ensures)) ∙ known))))
 
 pub depth-spec : {M : Type 1} → statement M
 depth-spec =

@@ -1,47 +1,47 @@
--- `messages::of_kind` meets its contract.
+-- `messages::of_kind` meets its contract: of three kinds their own record stands beside the message, and of any other nothing.
 -- Assumes nothing.
 use borrow.Author.Needs.{needs}
+use Rattle.answers.specs.Listed.{readingOf}
+use Rattle.answers.specs.declared.kind.Kind.the-variants.{RegionWise, Depth, Unregistered}
+use Rattle.messages.proofs.Alone.{alone, region-wise-beside, depth-beside, unregistered-beside}
 use Rattle.messages.proofs.of_kind.Statement.{statement}
 use Rattle.messages.proofs.of_kind.Tie as tie
 
-frame-packing : tie.Need-returns
-frame-packing c = rw (c .before .enum-told .given .1) (c .frame-packing .ensures)
+region-wise : tie.Need-returns
+region-wise c =
+    let a = c .before .before in
+    let nothing = a .before .before .before in
+    rw (c .of .ensures, a .region-wise .ensures, nothing .nothing .ensures, a .before .enum-told .given .1)
+    (region-wise-beside (readingOf RegionWise (nothing .before .before .args .s .now)))
 
-orientation : tie.Need-returns-2
-orientation c = rw (c .before .enum-told2 .given .1) (c .orientation .ensures)
+depth : tie.Need-returns-2
+depth c =
+    let a = c .before .before in
+    let nothing = a .before .before .before in
+    rw (c .of2 .ensures, a .depth .ensures, nothing .nothing .ensures, a .before .enum-told2 .given .1)
+    (depth-beside (readingOf Depth (nothing .before .before .args .s .now)))
 
-equirectangular : tie.Need-returns-3
-equirectangular c = rw (c .before .enum-told3 .given .1) (c .equirectangular .ensures)
+unregistered : tie.Need-returns-3
+unregistered c =
+    let a = c .before .before in
+    let nothing = a .before .before .before in
+    rw (c .of3 .ensures, a .unregistered .ensures, nothing .nothing .ensures, a .before .enum-told3 .given .1)
+    (unregistered-beside (readingOf Unregistered (nothing .before .before .args .s .now)))
 
-rotation : tie.Need-returns-4
-rotation c = rw (c .before .enum-told4 .given .1) (c .rotation .ensures)
-
-region-wise : tie.Need-returns-5
-region-wise c = rw (c .before .enum-told5 .given .1) (c .region-wise .ensures)
-
-alpha : tie.Need-returns-6
-alpha c = rw (c .before .enum-told6 .given .1) (c .alpha .ensures)
-
-depth : tie.Need-returns-7
-depth c = rw (c .before .enum-told7 .given .1) (c .depth .ensures)
-
-registered : tie.Need-returns-8
-registered c = rw (c .before .enum-told8 .given .1) (c .registered .ensures)
-
-unregistered : tie.Need-returns-9
-unregistered c = rw (c .before .enum-told9 .given .1) (c .unregistered .ensures)
+other : tie.Need-returns-4
+other c =
+    let a = c .before in
+    let nothing = a .before .before in
+    let args = nothing .before .before .args in
+    rw (c .of4 .ensures, a .brief-of .ensures, nothing .nothing .ensures)
+    (alone (args .kind) (a .before .match .keys4) (readingOf (args .kind) (args .s .now)))
 
 pub of-kind-spec : {M : Type 1} → statement M
 of-kind-spec =
     tie.close
     (tie.spec
-    (λ c. c .match .keys1) (λ c κs. search needs)
-    (λ c. c .match .keys2) (λ c κs. search needs)
-    (λ c. c .match .keys3) (λ c κs. search needs)
-    (λ c. c .match .keys4) (λ c κs. search needs)
-    (λ c. c .match .keys5) (λ c κs. search needs)
-    (λ c. c .match .keys6) (λ c κs. search needs)
-    (λ c. c .match .keys7) (λ c κs. search needs)
-    (λ c. c .match .keys8) (λ c κs. search needs)
-    (λ c. c .match .keys9) (λ c κs. search needs)
-    frame-packing orientation equirectangular rotation region-wise alpha depth registered unregistered)
+    (λ c κs. tt)
+    (λ c. c .match .keys1) (λ c κs. search needs) (λ c κs. tt) region-wise
+    (λ c. c .match .keys2) (λ c κs. search needs) (λ c κs. tt) depth
+    (λ c. c .match .keys3) (λ c κs. search needs) (λ c κs. tt) unregistered
+    (λ c κs. search needs) (λ c κs. tt) other)

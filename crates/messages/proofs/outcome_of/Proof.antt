@@ -2,36 +2,20 @@
 -- Assumes nothing.
 use mathlib.Core.Path.{ap}
 use borrow.Author.Needs.{needs}
-use Rattle.answers.specs.declared.Answer.{Answer}
+use Rattle.answers.specs.declared.Brief.{Brief}
+use Rattle.messages.specs.declared.UnregisteredAnswer.{UnregisteredAnswer}
 use Rattle.messages.proofs.outcome_of.Statement.{statement}
 use Rattle.messages.proofs.outcome_of.Tie as tie
 
-frame-packing : tie.Need-returns
-frame-packing c = rw (c .before .enum-told .given .1) (ap (λ (x : Answer). x .outcome) (c .frame-packing .ensures))
+registered : tie.Need-returns
+registered c = rw (c .before .enum-told .given .1) (ap (λ (x : Brief). x .outcome) (c .registered .ensures))
 
-orientation : tie.Need-returns-2
-orientation c = rw (c .before .enum-told2 .given .1) (ap (λ (x : Answer). x .outcome) (c .orientation .ensures))
+unregistered : tie.Need-returns-2
+unregistered c =
+    rw (c .before .before .enum-told2 .given .1) (ap (λ (x : UnregisteredAnswer). x .brief .outcome) (c .before .unregistered .ensures))
 
-equirectangular : tie.Need-returns-3
-equirectangular c = rw (c .before .enum-told3 .given .1) (ap (λ (x : Answer). x .outcome) (c .equirectangular .ensures))
-
-rotation : tie.Need-returns-4
-rotation c = rw (c .before .enum-told4 .given .1) (ap (λ (x : Answer). x .outcome) (c .rotation .ensures))
-
-region-wise : tie.Need-returns-5
-region-wise c = rw (c .before .enum-told5 .given .1) (ap (λ (x : Answer). x .outcome) (c .region-wise .ensures))
-
-alpha : tie.Need-returns-6
-alpha c = rw (c .before .enum-told6 .given .1) (ap (λ (x : Answer). x .outcome) (c .alpha .ensures))
-
-depth : tie.Need-returns-7
-depth c = rw (c .before .enum-told7 .given .1) (ap (λ (x : Answer). x .outcome) (c .depth .ensures))
-
-registered : tie.Need-returns-8
-registered c = rw (c .before .enum-told8 .given .1) (ap (λ (x : Answer). x .outcome) (c .registered .ensures))
-
-unregistered : tie.Need-returns-9
-unregistered c = rw (c .before .enum-told9 .given .1) (ap (λ (x : Answer). x .outcome) (c .unregistered .ensures))
+other : tie.Need-returns-3
+other c = ap (λ (x : Brief). x .outcome) (c .brief-of .ensures)
 
 pub outcome-of-spec : {M : Type 1} → statement M
 outcome-of-spec =
@@ -39,11 +23,5 @@ outcome-of-spec =
     (tie.spec
     (λ c. c .match .keys1) (λ c κs. search needs)
     (λ c. c .match .keys2) (λ c κs. search needs)
-    (λ c. c .match .keys3) (λ c κs. search needs)
-    (λ c. c .match .keys4) (λ c κs. search needs)
-    (λ c. c .match .keys5) (λ c κs. search needs)
-    (λ c. c .match .keys6) (λ c κs. search needs)
-    (λ c. c .match .keys7) (λ c κs. search needs)
-    (λ c. c .match .keys8) (λ c κs. search needs)
-    (λ c. c .match .keys9) (λ c κs. search needs)
-    frame-packing orientation equirectangular rotation region-wise alpha depth registered unregistered)
+    (λ c κs. search needs)
+    registered unregistered other)

@@ -3,6 +3,7 @@
 use mathlib.Core.Path.{ap}
 use borrow.Author.Needs.{needs}
 use Rattle.kind_user_data.specs.Registered.{outOf}
+use Rattle.answers.specs.Answer.{briefOf}
 use Rattle.answers.specs.declared.kind.Kind.the-variants.{Registered}
 use Rattle.messages.proofs.Finish.{by-refused, by-taken}
 use Rattle.messages.proofs.registered.Statement.{statement}
@@ -12,12 +13,12 @@ refused : tie.Need-returns
 refused c =
     let told = c .before .before .enum-told .given .1 in
     rw (c .refused .ensures, c .before .refusal .ensures, told)
-    (by-refused Registered _ (c .before .before .before .before .read .ensures) (ap outOf told))
+    (ap briefOf (by-refused Registered _ (c .before .before .before .before .read .ensures) (ap outOf told)))
 
 taken : tie.Need-returns-2
 taken c =
     rw (c .registered .ensures)
-    (by-taken Registered _ (c .before .before .before .before .read .ensures) (ap outOf (c .before .before .r .given .1)))
+    (ap briefOf (by-taken Registered _ (c .before .before .before .before .read .ensures) (ap outOf (c .before .before .r .given .1))))
 
 pub registered-spec : {M : Type 1} → statement M
 registered-spec =

@@ -12,8 +12,7 @@ use Rattle.script.specs.declared.call.Payload.{Payload}
 use Rattle.script.specs.declared.call.Call.{Call}
 use Rattle.script.specs.declared.call.Call.the-variants.{Open, Close, Sequence, Picture, Table, Feed, Read, Explain, Help, Nothing}
 use Rattle.slots.specs.declared.Slots.{Slots}
-use Rattle.slots.specs.declared.Called.{Called}
-use Rattle.slots.specs.declared.Pictured.{Pictured}
+use Rattle.answers.specs.declared.Answer.{Answer}
 use Rattle.feeding.specs.declared.Fed.{Fed}
 use Rattle.feeding.specs.Feed.{fedTo}
 use Rattle.desk.specs.Slots.{slotsAfter}
@@ -39,12 +38,12 @@ stays Nothing s lent h = refl
 
 -- the bytes that are fed are the first of the lent ones
 fed : (r : Fed) (s : Slots) (n : ℕ) (p : Payload) (given lent : List ℕ) →
-    r ≡ fedTo s n (p .kind) (p .size) given → given ≡ take (p .count) lent → r .slots ≡ slotsAfter (Feed n p) s lent
+    (r .slots, r .answer) ≡ fedTo s n (p .kind) (p .size) given → given ≡ take (p .count) lent → r .slots ≡ slotsAfter (Feed n p) s lent
 unfolding slotsAfter
-fed r s n p given lent e f = cc
+fed r s n p given lent e f = ap (λ (w : Slots × Answer). w .0) e ∙ ap (λ (g : List ℕ). fedTo s n (p .kind) (p .size) g .0) f
 
-slotsOf : Called → Slots
-slotsOf r = r .slots
+slotsOf : {A : Type 0} → Slots × A → Slots
+slotsOf w = w .0
 
 returns : tie.Need-returns
 unfolding slotsAfter slotsOf
@@ -59,10 +58,10 @@ unfolding slotsAfter slotsOf
 returns-3 c = rw (c .before .before .before .before .call3 .given .1) (c .done3 .ensures ∙ ap slotsOf (c .before .sequence .ensures))
 
 returns-4 : tie.Need-returns-4
-unfolding slotsAfter
+unfolding slotsAfter slotsOf
 returns-4 c =
     let after = c .before .before .before in
-    rw (after .before .before .call4 .given .1) (ap (λ (r : Pictured). r .slots) (after .picture .ensures))
+    rw (after .before .before .call4 .given .1) (ap slotsOf (after .picture .ensures))
 
 returns-5 : tie.Need-returns-5
 unfolding slotsAfter

@@ -1,11 +1,9 @@
 -- `held::Held::with_equirectangular` meets its contract.
 -- Assumes nothing.
-use Rattle.held.specs.Held.{withEquirectangular}
 use Rattle.held.proofs.Held.with_equirectangular.Statement.{statement}
 use Rattle.held.proofs.Held.with_equirectangular.Tie as tie
 
 returns : tie.Need-returns
-unfolding withEquirectangular
 returns c = rw (c .taken .ensures)
 
 pub with-equirectangular-spec : {M : Type 1} → statement M

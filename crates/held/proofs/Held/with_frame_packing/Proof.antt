@@ -1,11 +1,9 @@
 -- `held::Held::with_frame_packing` meets its contract.
 -- Assumes nothing.
-use Rattle.held.specs.Held.{withFramePacking}
 use Rattle.held.proofs.Held.with_frame_packing.Statement.{statement}
 use Rattle.held.proofs.Held.with_frame_packing.Tie as tie
 
 returns : tie.Need-returns
-unfolding withFramePacking
 returns c = rw (c .taken .ensures)
 
 pub with-frame-packing-spec : {M : Type 1} → statement M

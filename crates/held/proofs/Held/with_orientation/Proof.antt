@@ -1,11 +1,9 @@
 -- `held::Held::with_orientation` meets its contract.
 -- Assumes nothing.
-use Rattle.held.specs.Held.{withOrientation}
 use Rattle.held.proofs.Held.with_orientation.Statement.{statement}
 use Rattle.held.proofs.Held.with_orientation.Tie as tie
 
 returns : tie.Need-returns
-unfolding withOrientation
 returns c = rw (c .taken .ensures)
 
 pub with-orientation-spec : {M : Type 1} → statement M

@@ -1,11 +1,9 @@
 -- `held::Held::with_region_wise` meets its contract.
 -- Assumes nothing.
-use Rattle.held.specs.Held.{withRegionWise}
 use Rattle.held.proofs.Held.with_region_wise.Statement.{statement}
 use Rattle.held.proofs.Held.with_region_wise.Tie as tie
 
 returns : tie.Need-returns
-unfolding withRegionWise
 returns c = rw (c .taken .ensures)
 
 pub with-region-wise-spec : {M : Type 1} → statement M

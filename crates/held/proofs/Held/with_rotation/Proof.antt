@@ -1,11 +1,9 @@
 -- `held::Held::with_rotation` meets its contract.
 -- Assumes nothing.
-use Rattle.held.specs.Held.{withRotation}
 use Rattle.held.proofs.Held.with_rotation.Statement.{statement}
 use Rattle.held.proofs.Held.with_rotation.Tie as tie
 
 returns : tie.Need-returns
-unfolding withRotation
 returns c = rw (c .taken .ensures)
 
 pub with-rotation-spec : {M : Type 1} → statement M

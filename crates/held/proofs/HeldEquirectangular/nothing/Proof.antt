@@ -1,11 +1,11 @@
 -- `held::HeldEquirectangular::nothing` meets its contract.
 -- Assumes nothing.
-use Rattle.held.specs.Held.{noEquirectangular}
+use Rattle.held.specs.Held.{noneOf}
 use Rattle.held.proofs.HeldEquirectangular.nothing.Statement.{statement}
 use Rattle.held.proofs.HeldEquirectangular.nothing.Tie as tie
 
 returns : tie.Need-returns
-unfolding noEquirectangular
+unfolding noneOf
 returns c = rw (c .zero .ensures)
 
 pub nothing-spec : {M : Type 1} → statement M

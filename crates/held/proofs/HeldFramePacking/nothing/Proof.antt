@@ -1,11 +1,11 @@
 -- `held::HeldFramePacking::nothing` meets its contract.
 -- Assumes nothing.
-use Rattle.held.specs.Held.{noFramePacking}
+use Rattle.held.specs.Held.{noneOf}
 use Rattle.held.proofs.HeldFramePacking.nothing.Statement.{statement}
 use Rattle.held.proofs.HeldFramePacking.nothing.Tie as tie
 
 returns : tie.Need-returns
-unfolding noFramePacking
+unfolding noneOf
 returns c = rw (c .zero .ensures)
 
 pub nothing-spec : {M : Type 1} → statement M

@@ -1,16 +1,16 @@
 -- `held::HeldOrientation::kept` meets its contract.
 -- Assumes nothing.
 use borrow.Author.Tests.{eq-eqb, ne-eqb}
-use Rattle.held.specs.Held.{keptOrientation}
+use Rattle.held.specs.Held.{keptOf}
 use Rattle.held.proofs.HeldOrientation.kept.Statement.{statement}
 use Rattle.held.proofs.HeldOrientation.kept.Tie as tie
 
 dropped : tie.Need-returns
-unfolding keptOrientation
+unfolding keptOf
 dropped c = simp (eq-eqb _ _ (c .before .if1 .taken), c .nothing .ensures)
 
 stays : tie.Need-returns-2
-unfolding keptOrientation
+unfolding keptOf
 stays c = simp (ne-eqb _ _ (c .if1 .left))
 
 pub kept-spec : {M : Type 1} → statement M

@@ -1,11 +1,11 @@
 -- `held::HeldRegionWise::nothing` meets its contract.
 -- Assumes nothing.
-use Rattle.held.specs.Held.{noRegionWise}
+use Rattle.held.specs.Held.{noneOf}
 use Rattle.held.proofs.HeldRegionWise.nothing.Statement.{statement}
 use Rattle.held.proofs.HeldRegionWise.nothing.Tie as tie
 
 returns : tie.Need-returns
-unfolding noRegionWise
+unfolding noneOf
 returns c = rw (c .zero .ensures)
 
 pub nothing-spec : {M : Type 1} → statement M

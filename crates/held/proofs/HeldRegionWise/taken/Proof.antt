@@ -1,16 +1,16 @@
 -- `held::HeldRegionWise::taken` meets its contract.
 -- Assumes nothing.
 use borrow.Author.Tests.{eq-eqb, ne-eqb}
-use Rattle.held.specs.Held.{takenRegionWise}
+use Rattle.held.specs.Held.{takenOf}
 use Rattle.held.proofs.HeldRegionWise.taken.Statement.{statement}
 use Rattle.held.proofs.HeldRegionWise.taken.Tie as tie
 
 cancelled : tie.Need-returns
-unfolding takenRegionWise
+unfolding takenOf
 cancelled c = simp (ne-eqb _ _ (c .before .if1 .taken), c .nothing .ensures)
 
 held : tie.Need-returns-2
-unfolding takenRegionWise
+unfolding takenOf
 held c = simp (eq-eqb _ _ (c .if1 .left))
 
 pub taken-spec : {M : Type 1} → statement M

@@ -1,16 +1,16 @@
 -- `held::HeldRotation::kept` meets its contract.
 -- Assumes nothing.
 use borrow.Author.Tests.{eq-eqb, ne-eqb}
-use Rattle.held.specs.Held.{keptRotation}
+use Rattle.held.specs.Held.{keptOf}
 use Rattle.held.proofs.HeldRotation.kept.Statement.{statement}
 use Rattle.held.proofs.HeldRotation.kept.Tie as tie
 
 dropped : tie.Need-returns
-unfolding keptRotation
+unfolding keptOf
 dropped c = simp (eq-eqb _ _ (c .before .if1 .taken), c .nothing .ensures)
 
 stays : tie.Need-returns-2
-unfolding keptRotation
+unfolding keptOf
 stays c = simp (ne-eqb _ _ (c .if1 .left))
 
 pub kept-spec : {M : Type 1} → statement M

@@ -1,11 +1,11 @@
 -- `held::HeldRotation::nothing` meets its contract.
 -- Assumes nothing.
-use Rattle.held.specs.Held.{noRotation}
+use Rattle.held.specs.Held.{noneOf}
 use Rattle.held.proofs.HeldRotation.nothing.Statement.{statement}
 use Rattle.held.proofs.HeldRotation.nothing.Tie as tie
 
 returns : tie.Need-returns
-unfolding noRotation
+unfolding noneOf
 returns c = rw (c .zero .ensures)
 
 pub nothing-spec : {M : Type 1} → statement M

@@ -10,22 +10,26 @@ use Rattle.kind_region_wise.proofs.list.read_regions.Statement.{stateme
 use Rattle.kind_region_wise.proofs.list.read_regions.Tie as tie
 
 abbrev Inv-loop : tie.InvT-loop
-Inv-loop s count n regions₀ at₀ i₀ regions at i = Filling region most s count (at₀ .at) regions i (at .at)
+Inv-loop s count regions₀ n at₀ i₀ regions at i = Filling region most s count (at₀ .at) regions i (at .at)
 
 abbrev μ-loop : tie.MeasureT-loop
-μ-loop s count n regions₀ at₀ i₀ regions at i = count - i
+μ-loop s count regions₀ n at₀ i₀ regions at i = count - i
 
 loop-holds : tie.Need-loop-holds Inv-loop μ-loop
 unfolding region
-loop-holds c = rw (c .no-regions .ensures) (first region most _ _ _ (search needs))
+loop-holds c = rw (c .before .before .before .no-regions .ensures) (first region most _ _ _ (search needs))
 
-returns : tie.Need-returns Inv-loop μ-loop
+nowhere : tie.Need-returns Inv-loop μ-loop
+nowhere c = rw (c .before .before .no-regions .ensures, c .enum-told .given .1)
+
+returns : tie.Need-returns-2 Inv-loop μ-loop
 returns c =
     let k = c .before .before .before .before in
-    let e = c .before .before .enum-told .given .1 in
-    rw (c .before .no-regions2 .ensures, c .refusal .ensures, e)
+    let l = k .before .before in
+    let e = c .before .before .enum-told2 .given .1 in
+    rw (c .before .no-regions2 .ensures, c .refusal .ensures, e, l .before .before .onward .given .1)
     (ap regionsRead
-    (sym (stopped region most _ _ _ (k .before .before .loop .inv) (k .before .loop-test .taken) (sym (k .read .ensures) ∙ ap regionOut e))))
+    (sym (stopped region most _ _ _ (l .loop .inv) (k .before .loop-test .taken) (sym (k .read .ensures) ∙ ap regionOut e))))
 
 loop-again : tie.Need-loop-again Inv-loop μ-loop
 loop-again c =
@@ -33,8 +37,8 @@ loop-again c =
     let l = k .before .before in
     one-more region most _ _ _ (l .loop .inv) (k .before .loop-test .taken) (sym (k .read .ensures) ∙ ap regionOut (c .before .r .given .1))
 
-returns-2 : tie.Need-returns-2 Inv-loop μ-loop
-returns-2 c = ap regionsRead (sym (filled region most _ _ _ (c .before .loop .inv) (c .loop-test .left)))
+returns-2 : tie.Need-returns-3 Inv-loop μ-loop
+returns-2 c = rw (c .before .before .before .onward .given .1) (ap regionsRead (sym (filled region most _ _ _ (c .before .loop .inv) (c .loop-test .left))))
 
 pub read-regions-spec : {M : Type 1} → statement M
 read-regions-spec =
@@ -43,8 +47,10 @@ read-regions-spec =
     Inv-loop
     μ-loop
     (λ c κs. tt)
+    (λ c. c .match .keys1) (λ c. c .match .keys2)
+    nowhere
     loop-holds
-    (λ c κs. search needs) (λ c. c .match .keys1) (λ c. c .match .keys2) (λ c κs. tt) (λ c κs. tt)
+    (λ c κs. search needs) (λ c. c .match2 .keys1) (λ c. c .match2 .keys2) (λ c κs. tt) (λ c κs. tt)
     returns
     (λ c. omega arith)
     (λ c. omega arith)

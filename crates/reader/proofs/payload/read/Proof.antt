@@ -3,15 +3,15 @@
 use mathlib.Core.Path.{sym, _∙_}
 use native.Mathlib.Omega.{arith}
 use lib.ListN.{length-take}
-use Rattle.reader.proofs.EntryLaws.{payload-limit}
+use Rattle.reader.proofs.EntryLaws.{payload-fits}
 use Rattle.reader.proofs.Calls.{by-entry}
 use Rattle.reader.proofs.payload.read.Statement.{statement}
 use Rattle.reader.proofs.payload.read.Tie as tie
 
 returns : tie.Need-returns
 returns c =
-    let told = c .before in
-    rw (c .unknown .ensures) (sym (by-entry _ _ _ (sym (told .before .before .judged .ensures) ∙ told .enum-told .given .1)))
+    let told = c .before .before .before in
+    rw (c .of .ensures, c .before .nothing .ensures, c .before .before .unknown .ensures) (sym (by-entry _ _ _ (sym (told .before .before .judged .ensures) ∙ told .enum-told .given .1)))
 
 returns-2 : tie.Need-returns-2
 returns-2 c =
@@ -21,7 +21,7 @@ returns-2 c =
 of-kind-requires : tie.Need-of-kind-requires
 of-kind-requires c κs =
     let told = c .before .before in
-    let fits = payload-limit _ _ _ (sym (told .before .before .judged .ensures) ∙ told .entry2 .given .1) in
+    let fits = payload-fits _ _ _ (sym (told .before .before .judged .ensures) ∙ told .entry2 .given .1) .0 in
     rw (c .front .ensures) (rw (length-take) (omega (arith, fits)))
 
 returns-3 : tie.Need-returns-3
@@ -35,6 +35,8 @@ read-spec =
     (tie.spec
     (λ c κs. tt)
     (λ c. c .match .keys1)
+    (λ c κs. tt)
+    (λ c κs. tt)
     (λ c κs. tt)
     returns
     (λ c. c .match .keys2)

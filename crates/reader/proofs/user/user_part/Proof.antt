@@ -9,19 +9,19 @@ use lib.ListN.{length}
 use Rattle.reader.specs.Reader.{answerTo}
 use Rattle.reader.specs.User.{partFrom, userPart}
 use Rattle.answers.specs.declared.Rest.{Rest}
-use Rattle.reader.proofs.UserLaws.{restOf, within}
+use Rattle.reader.proofs.UserLaws.{startOf, within}
 use Rattle.reader.proofs.user.user_part.Statement.{statement}
 use Rattle.reader.proofs.user.user_part.Tie as tie
 
 -- what is answered, by the rest x
-parts : (c : tie.After-read) (x : Rest) → c .read .result .rest ≡ x → let a = c .before .before .args in
+parts : (c : tie.After-brief) (x : Rest) → c .brief .result .rest ≡ x → let a = c .before .before .args in
     partFrom x (a .size) (now (a .bytes)) ≡ userPart (a .kind) (a .size) (now (a .bytes))
 unfolding userPart
-parts c x e = let a = c .before .before .args in ap (λ (y : Rest). partFrom y (a .size) (now (a .bytes))) (sym e ∙ ap restOf (c .read .ensures))
+parts c x e = let a = c .before .before .args in ap (λ (y : Rest). partFrom y (a .size) (now (a .bytes))) (sym e ∙ ap startOf (c .brief .ensures))
 
 inside : (c : tie.After-known-told) → let a = c .before .before .before .before .before .args in
     (c .before .rest .given .0 .0 ≤ a .size) × (a .size ≤ length (now (a .bytes)))
-inside c = let o = c .before .before .before in within _ _ _ (sym (ap restOf (o .read .ensures)) ∙ c .before .rest .given .1)
+inside c = let o = c .before .before .before in within _ _ _ (sym (ap startOf (o .brief .ensures)) ∙ c .before .rest .given .1)
 
 none : tie.Need-returns
 none c = parts (c .before .before .before) _ (c .before .enum-told .given .1)

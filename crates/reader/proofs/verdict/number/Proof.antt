@@ -5,7 +5,7 @@ use native.Mathlib.Omega.{arith}
 use lib.ListN.{length-take}
 use Rattle.bits.specs.Refusals as refusals
 use Rattle.answers.specs.Answer.{answerNumber}
-use Rattle.reader.proofs.EntryLaws.{payload-limit}
+use Rattle.reader.proofs.EntryLaws.{payload-fits}
 use Rattle.reader.proofs.Calls.{by-entry}
 use Rattle.reader.proofs.verdict.number.Statement.{statement}
 use Rattle.reader.proofs.verdict.number.Tie as tie
@@ -25,7 +25,7 @@ oversized c =
 outcome-of-requires : tie.Need-outcome-of-requires
 outcome-of-requires c κs =
     let told = c .before .before in
-    let fits = payload-limit _ _ _ (sym (told .before .before .judged .ensures) ∙ told .entry .given .1) in
+    let fits = payload-fits _ _ _ (sym (told .before .before .judged .ensures) ∙ told .entry .given .1) .0 in
     rw (c .front .ensures) (rw (length-take) (omega (arith, fits)))
 
 payload : tie.Need-returns-3

@@ -1,5 +1,6 @@
 -- `record_row::record::lasting` meets its contract.
 -- Assumes nothing.
+use mathlib.Core.Path.{refl}
 use borrow.Author.Needs.{needs}
 use Rattle.record_row.proofs.HandingLaws.{by-lasting}
 use Rattle.record_row.proofs.record.lasting.Statement.{statement}
@@ -32,8 +33,7 @@ rotation c =
 region-wise : tie.Need-returns-5
 region-wise c =
     let hand = c .before .before in
-    let built = hand .before .before .before in
-    by-lasting _ _ _ _ _ (built .before .enum-told .given .1) (built .region-wise .ensures) (hand .hand5 .ensures)
+    by-lasting _ _ _ _ _ (hand .before .before .before .enum-told .given .1) refl (rw (hand .before .zero .ensures) at (hand .hand-regions .ensures))
 
 pub lasting-spec : {M : Type 1} → statement M
 lasting-spec =
@@ -43,7 +43,7 @@ lasting-spec =
     (λ c. search needs) (λ c κs. tt) (λ c. search needs) (λ c κs. tt)
     (λ c. search needs) (λ c κs. tt) (λ c. search needs) (λ c κs. tt)
     (λ c. search needs) (λ c κs. tt) (λ c. search needs) (λ c κs. tt)
-    (λ c. search needs) (λ c κs. tt) (λ c. search needs) (λ c κs. tt)
+    (λ c. search needs) (λ c κs. tt) (λ c κs. tt)
     (λ c. search needs) frame-packing
     (λ c. search needs) orientation
     (λ c. search needs) equirectangular

@@ -15,7 +15,7 @@ depth : tie.Need-returns-2
 depth c =
     let hand = c .before .before in
     let built = hand .before .before .before in
-    by-passing _ _ _ _ _ (built .before .enum-told .given .1) (built .depth .ensures) (hand .hand2 .ensures)
+    by-passing _ _ _ _ _ (built .before .before .enum-told .given .1) (rw (built .before .zero .ensures) at (built .depth .ensures)) (hand .hand2 .ensures)
 
 registered : tie.Need-returns-3
 registered c =
@@ -27,16 +27,16 @@ unregistered : tie.Need-returns-4
 unregistered c =
     let hand = c .before .before in
     let built = hand .before .before .before in
-    by-passing _ _ _ _ _ (built .before .enum-told2 .given .1) (built .unregistered .ensures) (hand .hand4 .ensures)
+    by-passing _ _ _ _ _ (built .before .before .enum-told2 .given .1) (rw (built .before .zero2 .ensures) at (built .unregistered .ensures)) (hand .hand4 .ensures)
 
 pub passing-spec : {M : Type 1} → statement M
 passing-spec =
     tie.close
     (tie.spec
     (λ c. search needs) (λ c κs. tt) (λ c. search needs) (λ c κs. tt)
+    (λ c. search needs) (λ c κs. tt) (λ c κs. tt) (λ c. search needs) (λ c κs. tt)
     (λ c. search needs) (λ c κs. tt) (λ c. search needs) (λ c κs. tt)
-    (λ c. search needs) (λ c κs. tt) (λ c. search needs) (λ c κs. tt)
-    (λ c. search needs) (λ c κs. tt) (λ c. search needs) (λ c κs. tt)
+    (λ c. search needs) (λ c κs. tt) (λ c κs. tt) (λ c. search needs) (λ c κs. tt)
     (λ c. search needs) alpha
     (λ c. search needs) depth
     (λ c. search needs) registered

@@ -1,4 +1,4 @@
--- `record_row::record::region_wise` meets its contract: the head and the regions fill the row.
+-- `record_row::record::region_wise` meets its contract: what is put fills the row.
 -- Assumes nothing.
 use mathlib.Core.Path.{_≡_}
 use borrow.Author.Needs.{needs}
@@ -13,26 +13,9 @@ all c = simp length-map at (c .good .1 .0 .1 .1 .1 .1 .1 .1 .1 .1 .1 .1 .0 .1 .0
 
 returns : tie.Need-returns
 returns c =
-    let two = c .before in
-    let one = two .before .before .before in
-    let start = one .before .before .before .before .before .before .before .before .before .before .before .before in
-    region-wise-filled (start .args .extension) (start .args .a) _ _ (all start) (one .put .ensures) (two .put-regions .ensures)
+    let put = c .before in
+    let start = put .before .before in
+    region-wise-filled (start .args .extension) (start .args .a) _ (all start) (put .put-region-wise .ensures)
 
 pub region-wise-spec : {M : Type 1} → statement M
-region-wise-spec =
-    tie.close
-    (tie.spec
-    (λ c. search needs)
-    (λ c. search needs)
-    (λ c. search needs)
-    (λ c. search needs)
-    (λ c. search needs)
-    (λ c. search needs)
-    (λ c. search needs)
-    (λ c. search needs)
-    (λ c. search needs)
-    (λ c. search needs)
-    (λ c κs. search needs)
-    (λ c. search needs)
-    (λ c κs. search needs)
-    returns)
+region-wise-spec = tie.close (tie.spec (λ c. search needs) (λ c κs. search needs) returns)

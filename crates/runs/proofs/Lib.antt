@@ -1,0 +1,3 @@
+-- The theorems of this crate.
+pub mod Cells
+pub mod Lasts
