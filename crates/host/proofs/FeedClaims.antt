@@ -25,12 +25,13 @@ fed-claim kind h n size bytes r t = _≡_ {A = Slots × Seen} (t, fed (r .number
 abbrev pub refusal : Reply
 refusal = record { number = 8; extension = 0 }
 
--- where the mark is 0 the slot stays, and else its record of kind k is the new one
-module _ (k : Lasting) (h : Slots) (n size : ℕ) (bytes : List ℕ) (l : n < 8) (o : isOpen (slotAt h n) ≡ true) (r : Reply) (t : ℕ) (x : HeldOf k) (e : (r, (t, x)) ≡ filling k size bytes) where
-  pub untaken : T (eqb t 0) → fed-claim (number (kindOf k)) h n size bytes r h
-  untaken y = rw (ap (λ (f : Reply × (ℕ × HeldOf k)). f .0) e) (fill-same k h n size bytes l o (sym (ap (λ (f : Reply × (ℕ × HeldOf k)). f .1 .0) e) ∙ eqb→eq t 0 y))
+-- r is what a payload of kind k fills, in parts: where its mark is 0 the slot stays, and else its record of kind k is the new one
+module _ (k : Lasting) (h : Slots) (n size : ℕ) (bytes : List ℕ) (l : n < 8) (o : isOpen (slotAt h n) ≡ true) {F : Type 0} (parts : F → Reply × (ℕ × HeldOf k)) {r g : F} (e : r ≡ g) where
+  pub untaken : parts g ≡ filling k size bytes → T (eqb (parts r .1 .0) 0) → fed-claim (number (kindOf k)) h n size bytes (parts r .0) h
+  untaken f y = let x = ap parts e ∙ f in rw (ap (λ (p : Reply × (ℕ × HeldOf k)). p .0) x) (fill-same k h n size bytes l o (sym (ap (λ (p : Reply × (ℕ × HeldOf k)). p .1 .0) x) ∙ eqb→eq (parts r .1 .0) 0 y))
 
-  pub taken : T (not (eqb t 0)) → fed-claim (number (kindOf k)) h n size bytes r (withSlot h n (holding (slotAt h n) (replaced k (slotAt h n .held) x)))
-  taken y =
-      rw (ap (λ (f : Reply × (ℕ × HeldOf k)). f .0) e, ap (λ (f : Reply × (ℕ × HeldOf k)). f .1 .1) e)
-      (fill-new k h n size bytes l o (λ z. eqb-false t 0 (no (eqb t 0) y) (ap (λ (f : Reply × (ℕ × HeldOf k)). f .1 .0) e ∙ z)))
+  pub taken : parts g ≡ filling k size bytes → T (not (eqb (parts r .1 .0) 0)) → fed-claim (number (kindOf k)) h n size bytes (parts r .0) (withSlot h n (holding (slotAt h n) (replaced k (slotAt h n .held) (parts r .1 .1))))
+  taken f y =
+      let x = ap parts e ∙ f in
+      rw (ap (λ (p : Reply × (ℕ × HeldOf k)). p .0) x, ap (λ (p : Reply × (ℕ × HeldOf k)). p .1 .1) x)
+      (fill-new k h n size bytes l o (λ z. eqb-false (parts r .1 .0) 0 (no (eqb (parts r .1 .0) 0) y) (ap (λ (p : Reply × (ℕ × HeldOf k)). p .1 .0) x ∙ z)))

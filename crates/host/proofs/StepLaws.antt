@@ -30,7 +30,7 @@ use Rattle.region_table.specs.Rows.{Table, refuses, wrote}
 use Rattle.region_table.specs.Table.{tableOfHeld, tabling, tableIn}
 use Rattle.lent.specs.Lent.{Left}
 use Rattle.isolation.specs.Runs.{Call, opens, closes, sequences, pictures, feeds, slotOf, Reply, said, shown, read, replying, turn, missing, step}
-use Rattle.host.specs.Seen.{Seen, called, fed, pictured, seen, cStep, cAnswer}
+use Rattle.host.specs.Seen.{Seen, called, fed, pictured, seen, cStep}
 
 abbrev inSeen : Slots × Reply → Slots × Seen
 inSeen w = (w .0, seen (w .1))
@@ -113,14 +113,11 @@ module _ (s : Slots) (n kind size : ℕ) (bytes : List ℕ) where
       ap (replying read) (where-open (slotAt s n) (shutAnswer kind) (holding (slotAt s n) (heldAfter (slotAt s n .held) (answerTo kind size bytes)), answerTo kind size bytes) o)
       ∙ ap (λ (g : Held). (holding (slotAt s n) g, read (answerTo kind size bytes))) e
 
-  -- a kind that is not held
-  pub unheld-answer : n < 8 → isOpen (slotAt s n) ≡ true → _≡_ {A = Slots × Seen} (s, seen (read (answerTo kind size bytes))) (cAnswer s (feeds n kind size bytes))
-  unheld-answer h o =
-      ap (λ (w : Slot × Reply). (s, seen (w .1))) (sym (open-turn o (heldAfter (slotAt s n .held) (answerTo kind size bytes)) refl))
-      ∙ ap (λ (w : Slots × Reply). (s, seen (w .1))) (sym (lifted-within (λ x. turn x (feeds n kind size bytes)) (read (shutAnswer kind)) s n h))
-
-  pub unheld-stays : isHeld kind ≡ false → cAnswer s (feeds n kind size bytes) ≡ cStep s (feeds n kind size bytes)
-  unheld-stays u = ap (λ (t : Slots). (t, seen (step s (feeds n kind size bytes) .1))) (sym (lifted-same (λ x. turn x (feeds n kind size bytes)) (read (shutAnswer kind)) s n (feed-unheld kind size bytes (slotAt s n) u)))
+  -- a kind that is not held: the slot stays
+  pub feeds-unheld : n < 8 → isOpen (slotAt s n) ≡ true → isHeld kind ≡ false → _≡_ {A = Slots × Seen} (s, seen (read (answerTo kind size bytes))) (cStep s (feeds n kind size bytes))
+  feeds-unheld h o u =
+      let x = open-turn o (heldAfter (slotAt s n .held) (answerTo kind size bytes)) refl in
+      stays s (feeds n kind size bytes) h (read (answerTo kind size bytes)) (ap (λ (y : Slot). (y, turn (slotAt s n) (feeds n kind size bytes) .1)) (feed-unheld kind size bytes (slotAt s n) u) ∙ ap (λ (w : Slot × Reply). (slotAt s n, w .1)) x)
 
 -- a kind that is held, by the record that the payload fills
 module _ (k : Lasting) (s : Slots) (n size : ℕ) (bytes : List ℕ) (h : n < 8) (o : isOpen (slotAt s n) ≡ true) where

@@ -33,10 +33,6 @@ cStep s c = (step s c .0, seen (step s c .1))
 abbrev pub cTurn : Slot → Call → Slot × Seen
 cTurn x c = (turn x c .0, seen (turn x c .1))
 
--- what a call shows, where the slots stay whatever they are
-abbrev pub cAnswer : Slots → Call → Slots × Seen
-cAnswer s c = (s, seen (step s c .1))
-
 -- ---- all but the extension's length
 
 abbrev pub blindly : Seen → Seen

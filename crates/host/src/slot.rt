@@ -19,7 +19,7 @@ ghost use Rattle.region_table.specs.Rows.{wrote};
 ghost use Rattle.region_table.specs.Table.{tableOfHeld, tableIn};
 ghost use Rattle.isolation.specs.Runs.{opens, closes, sequences, pictures, feeds};
 ghost use Rattle.host.specs.Slot.{tabledInNumbers, leftInNumbers, slotsSize};
-ghost use Rattle.host.specs.Seen.{called, fed, pictured, cStep, cAnswer};
+ghost use Rattle.host.specs.Seen.{called, fed, pictured, cStep};
 
 // The bytes of the slots: a player can see at its start that its header has the same.
 #[no_mangle]
@@ -93,160 +93,58 @@ pub extern "C" fn bruskelde_feed(
 ) -> Reply
     ensures { λ r. ⌜ (now (slots .exit), fed (r .number) (r .extension)) ≡ cStep (now (slots .entry)) (feeds slot kind size (now (bytes .entry))) ⌝ }
 {
+    if 8 <= slot {
+        return Reply {
+            number: 8,
+            extension: 0,
+        };
+    }
+    let here = &mut slots.slots[slot as usize];
+    if here.open != 1 {
+        return Reply {
+            number: 8,
+            extension: 0,
+        };
+    }
     if kind == 45 {
-        return feed_frame_packing(slots, slot, size, bytes);
+        let after = filling::frame_packing(size, bytes);
+        if after.taken == 0 {
+            return after.reply;
+        }
+        here.held.frame_packing = after.held;
+        return after.reply;
     }
     if kind == 47 {
-        return feed_orientation(slots, slot, size, bytes);
+        let after = filling::orientation(size, bytes);
+        if after.taken == 0 {
+            return after.reply;
+        }
+        here.held.orientation = after.held;
+        return after.reply;
     }
     if kind == 150 {
-        return feed_equirectangular(slots, slot, size, bytes);
+        let after = filling::equirectangular(size, bytes);
+        if after.taken == 0 {
+            return after.reply;
+        }
+        here.held.equirectangular = after.held;
+        return after.reply;
     }
     if kind == 154 {
-        return feed_rotation(slots, slot, size, bytes);
+        let after = filling::rotation(size, bytes);
+        if after.taken == 0 {
+            return after.reply;
+        }
+        here.held.rotation = after.held;
+        return after.reply;
     }
     if kind == 155 {
-        return feed_region_wise(slots, slot, size, bytes);
-    }
-    feed_unheld(slots, slot, kind, size, bytes)
-}
-
-fn feed_frame_packing(slots: &mut Slots, slot: u64, size: u64, bytes: &[u8]) -> Reply
-    ensures { λ r. ⌜ (now (slots .exit), fed (r .number) (r .extension)) ≡ cStep (now (slots .entry)) (feeds slot 45 size (now (bytes .entry))) ⌝ }
-{
-    if 8 <= slot {
-        return Reply {
-            number: 8,
-            extension: 0,
-        };
-    }
-    let here = &mut slots.slots[slot as usize];
-    if here.open != 1 {
-        return Reply {
-            number: 8,
-            extension: 0,
-        };
-    }
-    let after = filling::frame_packing(size, bytes);
-    if after.taken == 0 {
+        let after = filling::region_wise(size, bytes);
+        if after.taken == 0 {
+            return after.reply;
+        }
+        here.held.region_wise = after.held;
         return after.reply;
-    }
-    here.held.frame_packing = after.held;
-    after.reply
-}
-
-fn feed_orientation(slots: &mut Slots, slot: u64, size: u64, bytes: &[u8]) -> Reply
-    ensures { λ r. ⌜ (now (slots .exit), fed (r .number) (r .extension)) ≡ cStep (now (slots .entry)) (feeds slot 47 size (now (bytes .entry))) ⌝ }
-{
-    if 8 <= slot {
-        return Reply {
-            number: 8,
-            extension: 0,
-        };
-    }
-    let here = &mut slots.slots[slot as usize];
-    if here.open != 1 {
-        return Reply {
-            number: 8,
-            extension: 0,
-        };
-    }
-    let after = filling::orientation(size, bytes);
-    if after.taken == 0 {
-        return after.reply;
-    }
-    here.held.orientation = after.held;
-    after.reply
-}
-
-fn feed_equirectangular(slots: &mut Slots, slot: u64, size: u64, bytes: &[u8]) -> Reply
-    ensures { λ r. ⌜ (now (slots .exit), fed (r .number) (r .extension)) ≡ cStep (now (slots .entry)) (feeds slot 150 size (now (bytes .entry))) ⌝ }
-{
-    if 8 <= slot {
-        return Reply {
-            number: 8,
-            extension: 0,
-        };
-    }
-    let here = &mut slots.slots[slot as usize];
-    if here.open != 1 {
-        return Reply {
-            number: 8,
-            extension: 0,
-        };
-    }
-    let after = filling::equirectangular(size, bytes);
-    if after.taken == 0 {
-        return after.reply;
-    }
-    here.held.equirectangular = after.held;
-    after.reply
-}
-
-fn feed_rotation(slots: &mut Slots, slot: u64, size: u64, bytes: &[u8]) -> Reply
-    ensures { λ r. ⌜ (now (slots .exit), fed (r .number) (r .extension)) ≡ cStep (now (slots .entry)) (feeds slot 154 size (now (bytes .entry))) ⌝ }
-{
-    if 8 <= slot {
-        return Reply {
-            number: 8,
-            extension: 0,
-        };
-    }
-    let here = &mut slots.slots[slot as usize];
-    if here.open != 1 {
-        return Reply {
-            number: 8,
-            extension: 0,
-        };
-    }
-    let after = filling::rotation(size, bytes);
-    if after.taken == 0 {
-        return after.reply;
-    }
-    here.held.rotation = after.held;
-    after.reply
-}
-
-fn feed_region_wise(slots: &mut Slots, slot: u64, size: u64, bytes: &[u8]) -> Reply
-    ensures { λ r. ⌜ (now (slots .exit), fed (r .number) (r .extension)) ≡ cStep (now (slots .entry)) (feeds slot 155 size (now (bytes .entry))) ⌝ }
-{
-    if 8 <= slot {
-        return Reply {
-            number: 8,
-            extension: 0,
-        };
-    }
-    let here = &mut slots.slots[slot as usize];
-    if here.open != 1 {
-        return Reply {
-            number: 8,
-            extension: 0,
-        };
-    }
-    let after = filling::region_wise(size, bytes);
-    if after.taken == 0 {
-        return after.reply;
-    }
-    here.held.region_wise = after.held;
-    after.reply
-}
-
-// A kind of which nothing is held: the slots stay.
-fn feed_unheld(slots: &mut Slots, slot: u64, kind: u64, size: u64, bytes: &[u8]) -> Reply
-    ensures { λ r. ⌜ (now (slots .exit), fed (r .number) (r .extension)) ≡ cAnswer (now (slots .entry)) (feeds slot kind size (now (bytes .entry))) ⌝ }
-{
-    if 8 <= slot {
-        return Reply {
-            number: 8,
-            extension: 0,
-        };
-    }
-    let here = &mut slots.slots[slot as usize];
-    if here.open != 1 {
-        return Reply {
-            number: 8,
-            extension: 0,
-        };
     }
     filling::unheld(kind, size, bytes)
 }

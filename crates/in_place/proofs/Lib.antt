@@ -3,3 +3,4 @@ pub mod Parts
 pub mod Eight
 pub mod Pairs
 pub mod Lapses
+pub mod Fills

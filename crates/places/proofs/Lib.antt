@@ -7,15 +7,12 @@ pub mod Entry
 pub mod Finding
 pub mod Numbered
 pub mod Replacing
-pub mod Payload
 pub mod Kinded
-pub mod Filling
 pub mod Lending
 pub mod Tabling
 pub mod Renewing
 pub mod Showing
 pub mod Picturing
 pub mod Opening
-pub mod Judging
-pub mod Choosing
+pub mod Feeding
 pub mod Starting
