@@ -5,8 +5,6 @@ use Rattle.bits.proofs.Determined.{Determines}
 use Rattle.answers.specs.declared.Answer.{Answer}
 use Rattle.slots.specs.declared.Slot.{Slot}
 use Rattle.slots.specs.declared.Slots.{Slots}
-use Rattle.feeding.specs.declared.FedSlot.{FedSlot}
-use Rattle.feeding.specs.declared.Fed.{Fed}
 use Rattle.feeding.proofs.feed_slot.Kinds as feed-slot-kinds
 use Rattle.feeding.proofs.feed_slot.Reads as feed-slot-reads
 use Rattle.feeding.proofs.feed.Kinds as feed-kinds

@@ -3,12 +3,10 @@
 use Prim.Native.Nat.{ℕ}
 use native.Mathlib.Omega.{arith}
 use mathlib.Core.Path.{_≡_, refl, sym, ap, _∙_, subst}
-use mathlib.Core.Logic.{_≢_, _⊎_, inl, inr}
-use mathlib.Core.Bool.{Bool, true, false}
+use mathlib.Core.Logic.{_≢_}
+use mathlib.Core.Bool.{true}
 use mathlib.Core.List.{List}
-use lib.Dec.{eqb}
 use lib.ListN.{take}
-use Rattle.bits.specs.Choice.{if_then_else_}
 use Rattle.bits.specs.Out.{Out}
 use Rattle.bits.specs.Out as out
 use Rattle.bits.specs.declared.ending.Ending.{Ending}

@@ -10,8 +10,8 @@ use Rattle.bits.specs.Choice.{if_then_else_}
 use Rattle.format.specs.Syntax.{i32, times}
 use Rattle.kind_region_wise.specs.RegionWise.{region}
 use Rattle.answers.specs.Listed.{number, zeros}
-use Rattle.held.specs.Lasting.{Lasting, framePacking, orientation, equirectangular, rotation, regionWise, kindOf, RecordOf, cancelOf, persistenceOf, HeldOf, marked, markOf, valueOf}
-use Rattle.held.specs.Held.{noneOf, takenOf, keptOf, five, heldOf, nothing, kept, replaced}
+use Rattle.held.specs.Lasting.{Lasting, framePacking, orientation, equirectangular, rotation, regionWise, kindOf, RecordOf, persistenceOf, HeldOf, marked, markOf, valueOf}
+use Rattle.held.specs.Held.{noneOf, keptOf, five, heldOf, nothing, kept, replaced}
 use Rattle.held.specs.declared.Held.{Held}
 
 -- ---- a mark and a record

@@ -1,7 +1,7 @@
 -- What the walks of a feed end in: the slots as they are left and the reply are what the run's step leaves and shows.
 -- Assumes nothing.
 use Prim.Native.Nat.{ℕ, _<_}
-use mathlib.Core.Path.{_≡_, ap, subst, sym, _∙_}
+use mathlib.Core.Path.{_≡_, ap, sym, _∙_}
 use mathlib.Core.Bool.{true, not}
 use mathlib.Core.List.{List}
 use lib.Dec.{T, eqb, eqb→eq}

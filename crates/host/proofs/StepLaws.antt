@@ -4,9 +4,8 @@
 use Prim.Native.Nat.{ℕ, _≤_, _<_}
 use mathlib.Core.Path.{_≡_, refl, sym, ap, _∙_}
 use mathlib.Core.Logic.{_≢_, _⊎_, inl, inr}
-use mathlib.Core.Bool.{Bool, true, false}
+use mathlib.Core.Bool.{true, false}
 use mathlib.Core.List.{List}
-use lib.ListN.{length}
 use Rattle.bits.specs.Refusals.{bySlot}
 use Rattle.bits.proofs.BitLaws.{below}
 use Rattle.answers.specs.Listed.{number, isHeld, named}
@@ -16,20 +15,18 @@ use Rattle.reader.specs.Reader.{answerTo}
 use Rattle.held.specs.Lasting.{Lasting, kindOf}
 use Rattle.held.specs.Held.{nothing, kept, replaced}
 use Rattle.held.specs.declared.Held.{Held}
-use Rattle.slots.specs.Slots.{refused, freshSlot, closedSlot, isOpen, holding, whenOpen, opening, closing, sequencing, picturing, slotAt, withSlot}
-use Rattle.slots.specs.declared.Answer.{Answer}
+use Rattle.slots.specs.Slots.{refused, freshSlot, closedSlot, isOpen, holding, slotAt, withSlot}
 use Rattle.slots.specs.declared.Answer.the-variants.{Done}
 use Rattle.slots.specs.declared.Slot.{Slot}
 use Rattle.slots.specs.declared.Slots.{Slots}
-use Rattle.slots.proofs.Laws.{where-open, where-shut, holding-same, with-same, lifted-within, lifted-past, lifted-same}
-use Rattle.feeding.specs.Feed.{heldAfter, shutAs, shutAnswer, feeding}
-use Rattle.feeding.specs.Filling.{takenMark, filling}
+use Rattle.slots.proofs.Laws.{where-open, where-shut, holding-same, with-same, lifted-within, lifted-past}
+use Rattle.feeding.specs.Feed.{heldAfter, shutAs, shutAnswer}
+use Rattle.feeding.specs.Filling.{filling}
 use Rattle.feeding.proofs.FeedLaws.{feed-unheld}
 use Rattle.feeding.proofs.FillLaws.{filled, fills-held, leaves-held}
-use Rattle.region_table.specs.Rows.{Table, refuses, wrote}
+use Rattle.region_table.specs.Rows.{Table, refuses}
 use Rattle.region_table.specs.Table.{tableOfHeld, tabling, tableIn}
-use Rattle.lent.specs.Lent.{Left}
-use Rattle.isolation.specs.Runs.{Call, opens, closes, sequences, pictures, feeds, slotOf, Reply, said, shown, read, replying, turn, missing, step}
+use Rattle.isolation.specs.Runs.{Call, opens, closes, sequences, pictures, feeds, slotOf, Reply, said, shown, read, replying, turn, missing}
 use Rattle.host.specs.Seen.{Seen, called, fed, pictured, seen, cStep}
 
 abbrev inSeen : Slots × Reply → Slots × Seen

@@ -11,11 +11,10 @@ use Rattle.lent.specs.Lent.{left}
 use Rattle.region_table.specs.Rows.{Table, refuses, wrote}
 use Rattle.region_table.specs.Table.{tabling, tableIn}
 use Rattle.region_table.proofs.TableLaws.{table-stays}
-use Rattle.slots.specs.Slots.{lifted}
 use Rattle.slots.specs.declared.Slots.{Slots}
 use Rattle.slots.proofs.Laws.{lifted-said}
 use Rattle.slots.proofs.Slots as slots
-use Rattle.isolation.specs.Runs.{Reply, tables, tabled, step}
+use Rattle.isolation.specs.Runs.{tables, tabled, step}
 use Rattle.host.specs.Slot.{leftInNumbers, slotsSize}
 use Rattle.host.specs.declared.slot.Tabled.{Tabled}
 

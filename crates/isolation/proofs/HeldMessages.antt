@@ -13,7 +13,6 @@ use Rattle.reader.specs.Reader.{answerTo}
 use Rattle.answers.specs.declared.Outcome.the-variants.{Taken}
 use Rattle.reader.proofs.Demand2.{answer-0}
 use Rattle.held.specs.Held.{nothing}
-use Rattle.runs.specs.Since as runs
 use Rattle.held.specs.Lasting.{Lasting, regionWise, kindOf, RecordOf, cancelOf}
 use Rattle.slots.specs.declared.Slot.{Slot}
 use Rattle.slots.proofs.Laws.{either}

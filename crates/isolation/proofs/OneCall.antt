@@ -6,9 +6,7 @@ use mathlib.Core.Logic.{_⊎_, inl, inr}
 use borrow.Author.Tests.{eqb-true, eqb-false}
 use Rattle.bits.proofs.BitLaws.{below}
 use Rattle.runs.specs.Cell.{Cell}
-use Rattle.held.specs.declared.Held.{Held}
 use Rattle.slots.specs.Slots.{Eight, slotAt, ButFor}
-use Rattle.slots.specs.declared.Answer.{Answer}
 use Rattle.slots.specs.declared.Slot.{Slot}
 use Rattle.slots.specs.declared.Slots.{Slots}
 use Rattle.slots.proofs.Laws.{either, lifted-within, lifted-past, lifted-own, lifted-but-for, lifted-same}

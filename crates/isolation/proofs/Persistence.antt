@@ -24,19 +24,16 @@ use Rattle.held.proofs.LastingLaws.{same-kind}
 use Rattle.region_table.specs.Rows.{Table}
 use Rattle.slots.specs.Slots.{isOpen, holding, freshSlot}
 use Rattle.slots.specs.declared.Slot.{Slot}
-use Rattle.slots.proofs.Laws.{apart, either, fresh-open, fresh-holds, closed-holds, holding-open, holding-holds}
+use Rattle.slots.proofs.Laws.{apart, either, fresh-holds, closed-holds, holding-open, holding-holds}
 use Rattle.feeding.specs.Feed.{heldAfter, shutAnswer}
 use Rattle.feeding.proofs.FeedLaws.{took-after, Came, held, passed, came, shut-is-8}
 use Rattle.isolation.specs.Runs.{Call, opens, closes, sequences, pictures, feeds, tables, Reply, said, shown, read, tabled, replying, turn, ends}
-use Rattle.isolation.specs.Lasting.{HoldsOf, Told, history, Answers, Gives, Leaves, Since}
+use Rattle.isolation.specs.Lasting.{HoldsOf, history, Answers, Gives, Leaves, Since}
 
--- ---- a closed slot holds nothing, from the fresh one on
+-- ---- a closed slot holds nothing
 
 abbrev Bare : Slot → Type 0
 Bare x = isOpen x ≡ false → x .held ≡ nothing
-
-fresh-bare : Bare freshSlot
-fresh-bare o = absurd (apart fresh-open o)
 
 holding-bare : (x : Slot) (h : Held) → isOpen x ≡ true → Bare (holding x h)
 holding-bare x h o f = absurd (apart (holding-open x h ∙ o) f)

@@ -111,6 +111,3 @@ blind (said a) = said a
 blind (shown w) = shown w
 blind (read a) = read (unextended a)
 blind (tabled t) = tabled t
-
-abbrev pub blinds : List Reply → List Reply
-blinds rs = runs.each blind rs

@@ -1,7 +1,7 @@
 -- A record, of its head and its regions: what the reading of the two comes to.
 -- Assumes nothing.
 use Prim.Native.Nat.{ℕ, _≤_}
-use mathlib.Core.Path.{_≡_, refl, sym, ap, _∙_}
+use mathlib.Core.Path.{_≡_, refl, ap, _∙_}
 use mathlib.Core.List.{List}
 use native.Mathlib.Omega.{arith}
 use Rattle.bits.specs.Out.{Out, taken, refused, after}
@@ -13,7 +13,6 @@ use Rattle.format.proofs.Steps.{same-after, step-done}
 use Rattle.format.proofs.Filling.{first, filled}
 use Rattle.kind_region_wise.specs.RegionWise.{most, table, region, noRegions, regionsRead, regionWiseRead, joined, noHead, headRefused, headKept, restOf}
 use Rattle.kind_region_wise.specs.declared.RegionWise.{RegionWise}
-use Rattle.kind_region_wise.specs.declared.RegionWiseRead.{RegionWiseRead}
 use Rattle.kind_region_wise.specs.declared.Head.{Head}
 use Rattle.kind_region_wise.specs.declared.HeadRead.{HeadRead}
 use Rattle.kind_region_wise.specs.declared.region.Region.{Region}

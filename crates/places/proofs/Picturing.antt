@@ -1,6 +1,6 @@
 -- `if 8 <= n { *shown = z(); return 8; } let here = &mut r.0[n as usize]; if here.0 != 1 { *shown = z(); return 8; } *shown = here.i; ..; 0`, over any store: what a slot holds is shown, and then each of five records is dropped where it lies, or stays: `if here.i.j.. == 0 { here.i.j.0 = 0; here.i.j.1 = z(); }`.
 -- Assumes `Given`.
-use mathlib.Core.Path.{_≡_, refl, sym, ap, subst}
+use mathlib.Core.Path.{_≡_, refl, sym, subst}
 use mathlib.Core.Bool.{Bool, true, false, not}
 use mathlib.Core.Option.{none, some}
 use Prim.Native.Nat.{ℕ, _+_, _*_, _≤_, _<_, _^_}

@@ -11,9 +11,9 @@ use mathlib.Core.Bool.{Bool, true, false, not}
 use mathlib.Core.Option.{some as some′}
 use mir.Fields.{getV, setV}
 use prog.Memory.{fieldAt, fieldOf}
-use mir.Syntax.{Name, Sym, Ty, Tys, tyStruct, Width, Place, place, field, Opd as Operand, Rv as RValue, copy, intBig, assign, Body, seq, skip, cond, call, return}
-use mir.Val.{Val, Vals, vstruct, vint, vbool, WT, Fits, hasTy}
-use base.Logic.{SProp, ent, sep, wand, ex, emp, via, id⊢, apply∗, guardI}
+use mir.Syntax.{Name, Sym, Ty, Tys, tyStruct, Place, place, field, Opd as Operand, Rv as RValue, copy, assign, Body, seq, skip, cond, call, return}
+use mir.Val.{Val, Vals, vstruct, vbool, WT, hasTy}
+use base.Logic.{SProp, ent, sep, wand, ex, emp, via, id⊢, apply∗}
 use base.Fml.{Share, fat, froom}
 use prog.Wp.{Heap, Env, spotOf, Calls, Loops, Wp, afterSeq, atReturn, returns as returnsᴼ, read, write}
 use ghost.Atoms.{Atoms, sem}
@@ -133,10 +133,6 @@ module _ {M : Type 1} {𝓤 : URA M} {H : Heap 𝓤} {A : Atoms 𝓤} {K : Type 
   pub answers : K → (Kf : Val → SProp 𝓤) {C : Calls 𝓤 H} {Λ : Loops 𝓤 H} {E : Env 𝓤 H} {rv : RValue} {Q : Post 𝓤 H} {v : Val} {Γ′ : List (Item 𝓤)} → Rv K W Γ E rv v → Writes K W Γ (spotOf 𝓤 H E 0 .0) (spotOf 𝓤 H E 0 .1) 0 v Γ′
       → Reads K W Γ′ (spotOf 𝓤 H E 0 .0) (spotOf 𝓤 H E 0 .1) 0 v → post 𝓤 H Q returnsᴼ ≡ atReturn 𝓤 H E Kf returnsᴼ → Step K W Γ′ (frees E (prop (Kf v))) Γ (runs C Λ E (seq (assign (place 0 []) rv) return) Q)
   answers t Kf r w l e = step (λ s. sets t r w $ returns-within t Kf e l $ s)
-
-  -- a constant whose bound a proof shows
-  pub big-lit : K → {E : Env 𝓤 H} {w : Width} {n : ℕ} → Fits w n → Opd K W Γ E (intBig w n) (vint w n)
-  big-lit t {E} {w} {n} z = record { go = λ Kt h. via 𝓤 (Kt (vint w n)) h (guardI 𝓤 (Fits w n) (Kt (vint w n)) z) }
 
   -- a call of a function by its contract, where the result's type tells its machine value: afterwards there are what the function ensures, the tokens, and what is said of last values
   pub calls-fn : K → {C : Calls 𝓤 H} {Λ : Loops 𝓤 H} {E : Env 𝓤 H} {f : Name} {xs : List Operand} {d : Place} {rest : Body} {q : Post 𝓤 H} → FmC 𝓤 H (W .laws) C → (S : Ended) (c : Clauses 𝓤 S)

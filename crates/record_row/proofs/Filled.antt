@@ -10,7 +10,7 @@ use Rattle.kind_region_wise.specs.RegionWise.{most}
 use Rattle.kind_region_wise.specs.declared.RegionWise.{RegionWise}
 use Rattle.kind_depth.specs.Depth.{most as mostListed}
 use Rattle.kind_depth.specs.declared.Depth.{Depth}
-use Rattle.record_row.specs.Fields.{headFields, regionsFields, regionWiseFields, presenceFields, valueFields, depthFields}
+use Rattle.record_row.specs.Fields.{regionWiseFields, presenceFields, valueFields, depthFields}
 use Rattle.record_row.proofs.RowLaws.{filled, joined, fields-length}
 
 pub identifier-filled : (e : ℕ) (xs q : List ℕ) → length xs ≡ 16 → q ≡ sets (replicate 17 0) 0 (e ∷ xs) → q ≡ e ∷ xs

@@ -1,8 +1,6 @@
 -- `region_table::table` meets its contract: past the eighth slot it is the call on a closed one.
 -- Assumes nothing.
-use Prim.Native.Nat.{ℕ}
 use mathlib.Core.Path.{sym, ap, _∙_}
-use mathlib.Core.List.{List}
 use lib.ListN.{length}
 use denote.Ref.{now}
 use borrow.Author.Needs.{needs}

@@ -1,6 +1,6 @@
 -- `feeding::filling::rotation` meets its contract.
 -- Assumes nothing.
-use mathlib.Core.Path.{refl, ap}
+use mathlib.Core.Path.{ap}
 use native.Mathlib.Omega.{arith}
 use Rattle.held.specs.Lasting.{rotation, HeldOf}
 use Prim.Native.Nat.{ℕ}

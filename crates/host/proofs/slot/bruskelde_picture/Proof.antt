@@ -22,7 +22,6 @@ use Rattle.in_place.proofs.Eight.{eight-slots, all-held}
 use Rattle.in_place.proofs.Lapses.{lapse-of, lapsed-all, leaves-kept}
 use Rattle.held.specs.Lasting.{framePacking, orientation, equirectangular, rotation, regionWise}
 use Rattle.held.specs.Held.{nothing}
-use Rattle.held.specs.declared.Held.{Held}
 use Rattle.held.proofs.Held as held
 use Rattle.held.proofs.Held.Laws as held′
 use Rattle.held.proofs.Held.nothing.Symbol as nothing-def
@@ -38,7 +37,7 @@ use Rattle.kind_rotation.proofs.Rotation.zero.Symbol as rotation-zero-def
 use Rattle.kind_rotation.proofs.Rotation.zero.Met as rotation-zero-thm
 use Rattle.kind_region_wise.proofs.RegionWise.zero.Symbol as region-wise-zero-def
 use Rattle.kind_region_wise.proofs.RegionWise.zero.Met as region-wise-zero-thm
-use Rattle.slots.specs.Slots.{holding, slotAt, withSlot}
+use Rattle.slots.specs.Slots.{slotAt, withSlot}
 use Rattle.slots.specs.declared.Slots.{Slots}
 use Rattle.slots.proofs.Slots as slots
 use Rattle.isolation.specs.Runs.{pictures}

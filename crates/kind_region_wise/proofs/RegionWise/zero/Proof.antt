@@ -1,6 +1,5 @@
 -- `kind_region_wise::RegionWise::zero` meets its contract.
 -- Assumes nothing.
-use mathlib.Core.Path.{_∙_}
 use Rattle.kind_region_wise.proofs.Joined.{nothing-joined}
 use Rattle.kind_region_wise.proofs.RegionWise.zero.Statement.{statement}
 use Rattle.kind_region_wise.proofs.RegionWise.zero.Tie as tie

@@ -6,7 +6,6 @@ use native.Mathlib.Omega.{arith}
 use borrow.Author.Needs.{needs}
 use denote.Ref.{now}
 use lib.ListN.{length}
-use Rattle.reader.specs.Reader.{answerTo}
 use Rattle.reader.specs.User.{partFrom, userPart}
 use Rattle.answers.specs.declared.Rest.{Rest}
 use Rattle.reader.proofs.UserLaws.{startOf, within}

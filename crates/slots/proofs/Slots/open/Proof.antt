@@ -5,7 +5,6 @@ use borrow.Author.Needs.{needs}
 use native.Mathlib.Omega.{arith}
 use Rattle.slots.specs.Slots.{refused, freshSlot, opening}
 use Rattle.slots.specs.declared.Slot.{Slot}
-use Rattle.slots.specs.declared.Answer.{Answer}
 use Rattle.slots.specs.declared.Answer.the-variants.{Done}
 use Rattle.slots.proofs.Entries.{eight}
 use Rattle.slots.proofs.Laws.{lifted-past, lifted-stored}

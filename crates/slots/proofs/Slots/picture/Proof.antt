@@ -1,6 +1,6 @@
 -- `slots::Slots::picture` meets its contract: the slot's own call, where there is such a slot.
 -- Assumes nothing.
-use mathlib.Core.Path.{sym, _∙_}
+use mathlib.Core.Path.{sym}
 use borrow.Author.Needs.{needs}
 use native.Mathlib.Omega.{arith}
 use Rattle.held.specs.Held.{nothing}
