@@ -23,10 +23,10 @@ unfolding last_one
 last-zero [] = refl
 last-zero (b ∷ w) = ap (further b) (last-zero w)
 
-last_one : (w : List Bool) → last_one (w ++ true ∷ []) ≡ at (length w)
+last_one_lem : (w : List Bool) → last_one (w ++ true ∷ []) ≡ at (length w)
 unfolding last_one
-last_one [] = refl
-last_one (b ∷ w) = ap (further b) (last_one w)
+last_one_lem [] = refl
+last_one_lem (b ∷ w) = ap (further b) (last_one_lem w)
 
 last-part-zero : (s : List ℕ) (p k : ℕ) → bit_at s (p + k) ≡ false → last_one (part s p (k + 1)) ≡ last_one (part s p k)
 unfolding part
@@ -34,7 +34,7 @@ last-part-zero s p k b = ap last_one (part-add s p k 1) ∙ rw b (last-zero (par
 
 last-part-one : (s : List ℕ) (p k : ℕ) → bit_at s (p + k) ≡ true → last_one (part s p (k + 1)) ≡ at k
 unfolding part
-last-part-one s p k b = ap last_one (part-add s p k 1) ∙ rw b (last_one (part s p k)) ∙ ap at (length_part s p k)
+last-part-one s p k b = ap last_one (part-add s p k 1) ∙ rw b (last_one_lem (part s p k)) ∙ ap at (length_part s p k)
 
 -- the last one of w lies in w
 last-inside : (w : List Bool) {i : ℕ} → last_one w ≡ at i → i < length w

@@ -1,6 +1,5 @@
 -- What reading an element finds at the front of the bits w: its number and how many bits it took, or a refusal.
-use Rattle.std.specs.Prelude.{ℕ, zero, suc, ◌+◌, ◌-◌, ◌^◌, Bool, true, false, List, [], ◌∷◌, length, take, leb}
-use Rattle.bits.specs.Choice.{if◌then◌else◌}
+use Rattle.std.specs.Prelude.{ℕ, zero, suc, ◌+◌, ◌-◌, ◌^◌, Bool, true, false, List, [], ◌∷◌, length, take, leb, if◌then◌else◌}
 use Rattle.bits.specs.Bits.{from, unsigned_of}
 use Rattle.bits.specs.Coding.{Shape, unsigned, exp_golomb}
 use Rattle.bits.specs.Out.{Out, taken, refused, placed}

@@ -1,5 +1,4 @@
 -- What the contracts of this crate cite.
-pub mod Choice
 pub mod Bits
 pub mod Refusals
 pub mod Out

@@ -1,6 +1,5 @@
 -- The end of a payload: w is all that is left of it after its message.
-use Rattle.std.specs.Prelude.{ℕ, suc, ◌+◌, Bool, true, false, List, [], ◌∷◌, length, leb}
-use Rattle.bits.specs.Choice.{if◌then◌else◌}
+use Rattle.std.specs.Prelude.{ℕ, suc, ◌+◌, Bool, true, false, List, [], ◌∷◌, length, leb, if◌then◌else◌}
 use Rattle.bits.specs.Bits.{from}
 use Rattle.bits.specs.Refusals.{refusal_number}
 use Rattle.bits.specs.declared.ending.Ending.{Ending}

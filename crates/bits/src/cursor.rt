@@ -1,5 +1,5 @@
 // Where a reading stands.
-#[derive(Drop)]
+#[derive(Clone, Copy)]
 pub struct Cursor {
     // The next bit's number.
     pub at: usize,

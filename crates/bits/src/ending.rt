@@ -8,7 +8,7 @@ use crate::element::remaining;
 use crate::refusal::Refusal;
 
 // The count of the extension's bits, 0 without a tail; or why the payload may not end so.
-#[derive(Drop)]
+#[derive(Clone, Copy)]
 pub enum Ending {
     Extension(u32),
     Refused(Refusal),

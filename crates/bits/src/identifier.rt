@@ -10,7 +10,7 @@ use crate::read::Onward;
 use crate::refusal::Refusal;
 
 // The bytes, which are zeros on a refusal, beside where the reading goes on.
-#[derive(Drop)]
+#[derive(Clone, Copy)]
 pub struct IdentifierRead {
     pub bytes: [u8; 16],
     pub onward: Onward,

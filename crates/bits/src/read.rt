@@ -6,21 +6,21 @@ ghost use Rattle.bits.specs.Answers.{read_out, byte_out, word_out, onward_refusa
 use crate::cursor::Cursor;
 use crate::refusal::Refusal;
 
-#[derive(Drop)]
+#[derive(Clone, Copy)]
 pub enum Read {
     Value(u32, Cursor),
     Refused(Refusal),
 }
 
 // Of an element of at most 8 bits.
-#[derive(Drop)]
+#[derive(Clone, Copy)]
 pub enum ByteRead {
     Value(u8, Cursor),
     Refused(Refusal),
 }
 
 // Of an element of at most 16 bits.
-#[derive(Drop)]
+#[derive(Clone, Copy)]
 pub enum WordRead {
     Value(u16, Cursor),
     Refused(Refusal),
@@ -28,7 +28,7 @@ pub enum WordRead {
 
 // Where a reading goes on, or why it does not. It stands beside a value that holds an array, which no enum can hold; on a refusal that
 // value is zeros.
-#[derive(Drop)]
+#[derive(Clone, Copy)]
 pub enum Onward {
     Next(Cursor),
     Refused(Refusal),

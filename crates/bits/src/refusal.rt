@@ -4,7 +4,7 @@ ghost use Rattle.bits.specs.Refusals.{refusal_number, by_kind, by_size, by_slot,
 
 use crate::cursor::Cursor;
 
-#[derive(Drop)]
+#[derive(Clone, Copy)]
 pub enum Refusal {
     // The kind is none that is read.
     Kind,
