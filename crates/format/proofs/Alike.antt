@@ -11,18 +11,18 @@ use lib.ListN.{length, take, drop, replicate, length-append, length-replicate}
 use lib.Pow.{pow_pos, pow_mono}
 use lib.Seq.{take_at, drop_at}
 use borrow.Author.Tests.{le-leb, lt-leb}
-use Rattle.bits.specs.Choice.{if◌then◌else◌}
+use Rattle.std.specs.Prelude.{if◌then◌else◌}
 use Rattle.bits.specs.Bits.{unsigned_of}
 use Rattle.bits.specs.Refusals.{Verdict, fine}
 use Rattle.bits.specs.Out.{taken}
 use Rattle.bits.specs.Coding.{Shape, unsigned, exp_golomb, CodedExpGolomb, CodedShape}
 use Rattle.bits.specs.Elements.{shape_front}
 use Rattle.bits.proofs.BitLaws.{below, number_lt}
-use Rattle.format.specs.Format.{Element, silent_in, silent, handed, verdict, Format, done, read, asks}
+use Rattle.format.specs.Format.{Element, silent_in, handed, verdict, Format, done, read, asks}
 use Rattle.format.specs.Reading.{run}
 use Rattle.format.specs.Coded.{Coded}
 use Rattle.format.specs.Syntax.{ignored_bits, guard_type, ◌must◌}
-use Rattle.format.specs.Varied.{Says, Alike, Varied, same, silent-both, Variation}
+use Rattle.format.specs.Varied.{Alike, Varied, same, silent-both, Variation}
 use Rattle.format.proofs.Run.{starts_with, run-complete}
 
 -- ---- one element's code at the front of w is the only one

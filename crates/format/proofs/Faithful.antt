@@ -7,7 +7,7 @@ use mathlib.Core.List.{List, ◌++◌}
 use lib.ListN.{length}
 use lib.Pow.{pow_pos}
 use borrow.Author.Tests.{eq-eqb, lt-ltb}
-use Rattle.bits.specs.Choice.{if◌then◌else◌}
+use Rattle.std.specs.Prelude.{if◌then◌else◌}
 use Rattle.bits.specs.Coding.{Shape, unsigned, exp_golomb, CodedShape}
 use Rattle.format.specs.Format.{silent, handed, Format, done, read, asks, ◌>>=◌, ◌of◌, zeros, all_zero}
 use Rattle.format.specs.Syntax.{when_else, when}

@@ -96,6 +96,20 @@ module _ {R A : Type 0} where
       go fine m q = refl
       go (against b) m q = refl
 
+  -- the element was read, and what follows it is left; or it was refused, and so is the whole: o is what reading it came to
+  module _ (e : Element) (g : R → ℕ) (k : ℕ → Format R A) (s : List ℕ) (p : ℕ) where
+    pub step-value : {m q : ℕ} → taken m q ≡ element_at e s p → run_at (read e g k) s p ≡ run_at (k m) s q
+    step-value l = rw (step e g k s p, ← l)
+
+    pub step-refused : {o : Out ℕ} {r t : Refusal} → o ≡ element_at e s p → o ≡ refused r → t ≡ refusal_in o → run_at (read e g k) s p ≡ refused t
+    step-refused l f h = rw (step e g k s p, ← l, h, f)
+
+    pub step-code-value : {c q : ℕ} → taken c q ≡ shape_at e.shape s p → run_at (read e g k) s p ≡ go_on (verdict e c) (run_at (k (handed e c)) s q)
+    step-code-value l = rw (step-code e g k s p, ← l)
+
+    pub step-code-refused : {o : Out ℕ} {r t : Refusal} → o ≡ shape_at e.shape s p → o ≡ refused r → t ≡ refusal_in o → run_at (read e g k) s p ≡ refused t
+    step-code-refused l f h = rw (step-code e g k s p, ← l, h, f)
+
   -- what a record must have to be written is passed over
   pub step-asks : (t : R → Bool) (f : Format R A) (s : List ℕ) (p : ℕ) → run_at (asks t f) s p ≡ run_at f s p
   unfolding run_at run

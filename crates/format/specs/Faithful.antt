@@ -1,5 +1,5 @@
 -- A table's getters are faithful: the number of each element stands where the table says, in the record that the table gives.
-use Rattle.std.specs.Prelude.{ℕ, ◌≡◌, Bool, true}
+use Rattle.std.specs.Prelude.{ℕ, ◌≡◌, true}
 use Rattle.format.specs.Format.{handed, Format, done, read, asks}
 use Rattle.format.specs.Writing.{fits}
 

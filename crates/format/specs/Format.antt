@@ -1,7 +1,6 @@
 -- A message's syntax as a value: which elements stand one after another, where the number of each stands in a record, and what becomes of
 -- them. Nothing here reads or writes.
-use Rattle.std.specs.Prelude.{ℕ, Bool, true, false, ◌&&◌, eqb}
-use Rattle.bits.specs.Choice.{if◌then◌else◌}
+use Rattle.std.specs.Prelude.{ℕ, Bool, true, false, ◌&&◌, eqb, if◌then◌else◌}
 use Rattle.bits.specs.Refusals.{Verdict, fine}
 use Rattle.bits.specs.Coding.{Shape, unsigned, exp_golomb}
 

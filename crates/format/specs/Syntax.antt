@@ -1,8 +1,7 @@
 -- The words in which the tables of the messages are written: u(n), ue(v), b(8), i(32), bytes, ignored bits, guard band types, rules, parts that
 -- may be absent, and lists. An element of a table is one line: its name, its descriptor, its rule if it has one, and where its number stands.
-use Rattle.std.specs.Prelude.{ℕ, zero, suc, ◌+◌, ◌-◌, ◌*◌, Bool, true, false, ◌&&◌, ◌||◌, List, [], ◌∷◌, ◌++◌, length, replicate, drop, get_or, leb, eqb, ℤ}
+use Rattle.std.specs.Prelude.{ℕ, zero, suc, ◌+◌, ◌-◌, ◌*◌, Bool, true, false, ◌&&◌, ◌||◌, List, [], ◌∷◌, ◌++◌, length, replicate, drop, get_or, leb, eqb, ℤ, if◌then◌else◌}
 use Rattle.std.specs.Int.Signed.{le_z}
-use Rattle.bits.specs.Choice.{if◌then◌else◌}
 use Rattle.bits.specs.Refusals.{Breach, broken, Verdict, fine, against}
 use Rattle.bits.specs.Coding.{unsigned, exp_golomb}
 use Rattle.bits.specs.Signed.{signed_of, twos_of}

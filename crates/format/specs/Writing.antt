@@ -1,6 +1,5 @@
 -- Writing by a format: the bits of a record's numbers, element by element; or why there are none.
-use Rattle.std.specs.Prelude.{ℕ, zero, suc, ◌-◌, ◌/◌, ◌%◌, ◌^◌, Bool, true, false, ◌&&◌, List, [], ◌∷◌, ◌++◌, replicate, leb, ltb, eqb}
-use Rattle.bits.specs.Choice.{if◌then◌else◌}
+use Rattle.std.specs.Prelude.{ℕ, zero, suc, ◌-◌, ◌/◌, ◌%◌, ◌^◌, Bool, true, false, ◌&&◌, List, [], ◌∷◌, ◌++◌, replicate, leb, ltb, eqb, if◌then◌else◌}
 use Rattle.bits.specs.Refusals.{Breach, Verdict, fine, against}
 use Rattle.bits.specs.Coding.{Shape, unsigned, exp_golomb}
 use Rattle.format.specs.Format.{Element, handed, verdict, Format, done, read, asks}
