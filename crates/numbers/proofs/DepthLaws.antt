@@ -12,7 +12,7 @@ use lib.IntN.{pos}
 use lib.Pow.{pow-add, pow_pos, pow_mono}
 use lib.Ieee.{fin, binary64, of_bits, to_bits}
 use lib.Ieee.Exact.{HasValue}
-use Rattle.bits.specs.Choice.{if◌then◌else◌}
+use Rattle.std.specs.Prelude.{if◌then◌else◌}
 use Rattle.numbers.proofs.Patterns.{Finite, shifted, scaled-by-k, scaled-finite, Is, pattern-is, scaled-is, value, back}
 use Rattle.numbers.specs.Floats.{pattern}
 use Rattle.numbers.specs.Depth.{DepthElement, Mantissa, depth_bits, depth_number}
@@ -51,8 +51,8 @@ narrow v n hv hn = lt_of_lt_of_le hn (pow_mono {i = v} {j = 53} (omega arith))
 pub normal-value : (s e v n : ℕ) → Mantissa s v n → 0 < e → e < 127
     → HasValue (of_bits binary64 (depth_bits s e v n)) (eqb s 1) (2 ^ e * (2 ^ v + n)) (2 ^ (31 + v))
 normal-value s e v n m pe he =
-    let hv : v ≤ 32 = m.length-fits in
-    let hn : n < 2 ^ v = m.mantissa-fits in
+    let hv : v ≤ 32 = m.length_fits in
+    let hn : n < 2 ^ v = m.mantissa_fits in
     let q = 2 ^ v + n in
     let d = e + 991 in
     let i = 52 - v in
@@ -76,9 +76,9 @@ normal-value s e v n m pe he =
 pub small-value : (s v n : ℕ) → Mantissa s v n → 0 < n → HasValue (of_bits binary64 (depth_bits s 0 v n)) (eqb s 1) n (2 ^ (30 + v))
 unfolding depth_bits
 small-value s v n m pn =
-    let hv : v ≤ 32 = m.length-fits in
+    let hv : v ≤ 32 = m.length_fits in
     let r : Is s n (2 ^ (1023 - (993 - v))) (depth_bits s 0 v n) =
-    scaled-is s (993 - v) n m.sign_fits (omega arith) (omega arith) pn (narrow v n hv m.mantissa-fits) in
+    scaled-is s (993 - v) n m.sign_fits (omega arith) (omega arith) pn (narrow v n hv m.mantissa_fits) in
     let scale : 1023 - (993 - v) ≡ 30 + v = omega arith in
     subst (λ (y : ℕ). HasValue (of_bits binary64 (depth_bits s 0 v n)) (eqb s 1) n (2 ^ y)) scale
     (value s n (2 ^ (1023 - (993 - v))) (depth_bits s 0 v n) r)
@@ -88,20 +88,20 @@ small-value s v n m pn =
 -- the parts of a coded element are those of a sign and a mantissa
 pub element-mantissa : (s e l n : ℕ) → DepthElement s e l n → Mantissa s (l + 1) n
 element-mantissa s e l n h =
-    record { sign_fits = h.sign_fits; length-fits = omega (arith, h.length-fits); mantissa-fits = h.mantissa-fits }
+    record { sign_fits = h.sign_fits; length_fits = omega (arith, h.length_fits); mantissa_fits = h.mantissa_fits }
 
 -- the bits of every number are a finite float's
 pub depth-finite : (s e v n : ℕ) → Mantissa s v n → e < 127 → Finite (depth_bits s e v n)
 unfolding depth_bits
-depth-finite s zero v n m he = scaled-finite s (993 - v) n m.sign_fits (omega arith) (narrow v n m.length-fits m.mantissa-fits)
+depth-finite s zero v n m he = scaled-finite s (993 - v) n m.sign_fits (omega arith) (narrow v n m.length_fits m.mantissa_fits)
 depth-finite s (suc e) v n m he =
     record {
       sign = s;
       exponent = suc e + 992;
       fraction = n * 2 ^ (52 - v);
       sign_fits = m.sign_fits;
-      exponent-fits = omega arith;
-      fraction-fits = shifted n v (52 - v) m.mantissa-fits (omega (arith, m.length-fits));
+      exponent_fits = omega arith;
+      fraction_fits = shifted n v (52 - v) m.mantissa_fits (omega (arith, m.length_fits));
       is = refl;
     }
 

@@ -13,7 +13,7 @@ use lib.Ieee.{Float, binary64, size, round, of_bits, to_bits, is_nan, nan_bits}
 use lib.Ieee.Bits.{nan_bits_above, nan_bits_is, to_bits-of_bits}
 use lib.Ieee.Digits.{size-lt, size-le, size_reaches}
 use lib.Ieee.Exact.{HasValue}
-use Rattle.bits.specs.Choice.{if◌then◌else◌}
+use Rattle.std.specs.Prelude.{if◌then◌else◌}
 use Rattle.numbers.proofs.Exact.{size-at, exact}
 use Rattle.numbers.specs.Floats.{pattern, lead, scaled_bits}
 
@@ -102,8 +102,8 @@ pub record Finite (bits : ℕ) : Type 0 where
   pub exponent : ℕ
   pub fraction : ℕ
   pub sign_fits : sign < 2
-  pub exponent-fits : exponent < 2047
-  pub fraction-fits : fraction < 2 ^ 52
+  pub exponent_fits : exponent < 2047
+  pub fraction_fits : fraction < 2 ^ 52
   pub is : bits ≡ pattern sign exponent fraction
 
 below : (s m : ℕ) → s < 2 → m < 2 ^ 63 → (s * 2 ^ 63 + m) % 2 ^ 63 ≡ m
@@ -138,8 +138,8 @@ zero-finite =
       exponent = 0;
       fraction = 0;
       sign_fits = omega arith;
-      exponent-fits = omega arith;
-      fraction-fits = omega arith;
+      exponent_fits = omega arith;
+      fraction_fits = omega arith;
       is = refl;
     }
 
@@ -154,8 +154,8 @@ scaled-finite s x (suc n) hs hx hn =
       exponent = x + lead (suc n);
       fraction = (suc n - 2 ^ lead (suc n)) * 2 ^ (52 - lead (suc n));
       sign_fits = hs;
-      exponent-fits = omega (arith, f.low);
-      fraction-fits = f.part;
+      exponent_fits = omega (arith, f.low);
+      fraction_fits = f.part;
       is = refl;
     }
 

@@ -6,7 +6,7 @@ ghost use Rattle.numbers.specs.Degrees.{degree_bits, degrees_of, no_degrees};
 
 // The rotation in degrees.
 #[repr(C)]
-#[derive(Drop)]
+#[derive(Clone, Copy)]
 pub struct Degrees {
     pub yaw: f64,
     pub pitch: f64,

@@ -11,7 +11,7 @@ const UNSPECIFIED: u8 = 127;
 const POSITIVE_ZERO: u64 = 0;
 
 // What a depth element stands for. `Absent` is the caller's to say, by the element's flag.
-#[derive(Drop)]
+#[derive(Clone, Copy)]
 pub enum DepthNumber {
     Absent,
     Unspecified,
