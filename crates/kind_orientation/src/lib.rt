@@ -1,4 +1,6 @@
 // Kind 47, display orientation: its record and its reader.
+#![tactic(auto)]
+
 ghost use Rattle.std.specs.Prelude.{◌≡◌};
 ghost use Rattle.bits.specs.Bits.{Payload};
 ghost use Rattle.bits.specs.Out.{refusal_in};
@@ -12,7 +14,7 @@ use bits::read::ByteRead;
 use bits::refusal::Refusal;
 
 #[repr(C)]
-#[derive(Drop)]
+#[derive(Clone, Copy)]
 pub struct Orientation {
     pub display_orientation_cancel_flag: u8,
     pub display_orientation_persistence_flag: u8,
@@ -32,7 +34,7 @@ impl Orientation {
     }
 }
 
-#[derive(Drop)]
+#[derive(Clone, Copy)]
 pub enum OrientationRead {
     Taken(Orientation, Cursor),
     Refused(Refusal),
