@@ -1,4 +1,6 @@
 // Kind 150, equirectangular projection: its record and its reader.
+#![tactic(auto)]
+
 ghost use Rattle.std.specs.Prelude.{◌≡◌};
 ghost use Rattle.bits.specs.Bits.{Payload};
 ghost use Rattle.bits.specs.Out.{refusal_in};
@@ -13,7 +15,7 @@ use bits::refusal::Refusal;
 use format::guard::guard_type;
 
 #[repr(C)]
-#[derive(Drop)]
+#[derive(Clone, Copy)]
 pub struct Equirectangular {
     pub erp_cancel_flag: u8,
     pub erp_persistence_flag: u8,
@@ -40,7 +42,7 @@ impl Equirectangular {
     }
 }
 
-#[derive(Drop)]
+#[derive(Clone, Copy)]
 pub enum EquirectangularRead {
     Taken(Equirectangular, Cursor),
     Refused(Refusal),
