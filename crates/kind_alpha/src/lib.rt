@@ -1,4 +1,6 @@
 // Kind 165, alpha channel information: its record and its reader.
+#![tactic(auto)]
+
 ghost use Rattle.std.specs.Prelude.{◌≡◌};
 ghost use Rattle.bits.specs.Bits.{Payload};
 ghost use Rattle.bits.specs.Out.{refusal_in};
@@ -11,7 +13,7 @@ use bits::element::{byte, word};
 use bits::read::{ByteRead, WordRead};
 use bits::refusal::Refusal;
 
-#[derive(Drop)]
+#[derive(Clone, Copy)]
 pub struct Alpha {
     pub alpha_channel_cancel_flag: u8,
     pub alpha_channel_use_idc: u8,
@@ -41,7 +43,7 @@ impl Alpha {
     }
 }
 
-#[derive(Drop)]
+#[derive(Clone, Copy)]
 pub enum AlphaRead {
     Taken(Alpha, Cursor),
     Refused(Refusal),
