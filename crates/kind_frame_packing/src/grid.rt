@@ -5,7 +5,7 @@ ghost use Rattle.kind_frame_packing.specs.FramePacking.{table};
 
 // As coded, in sixteenths of a sample from the upper left corner.
 #[repr(C)]
-#[derive(Drop)]
+#[derive(Clone, Copy)]
 pub struct Grid {
     pub fp_frame0_grid_position_x: u8,
     pub fp_frame0_grid_position_y: u8,

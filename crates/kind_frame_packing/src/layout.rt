@@ -7,7 +7,7 @@ use crate::flags::Flags;
 use crate::grid::Grid;
 
 #[repr(C)]
-#[derive(Drop)]
+#[derive(Clone, Copy)]
 pub struct Layout {
     pub fp_arrangement_type: u8,
     pub fp_quincunx_sampling_flag: u8,

@@ -1,4 +1,6 @@
 // Kind 45, frame packing arrangement: its record and its reader.
+#![tactic(auto)]
+
 pub mod aside;
 pub mod flags;
 pub mod grid;
@@ -20,7 +22,7 @@ use bits::read::{ByteRead, Read};
 use bits::refusal::Refusal;
 
 #[repr(C)]
-#[derive(Drop)]
+#[derive(Clone, Copy)]
 pub struct FramePacking {
     pub fp_arrangement_id: u32,
     pub fp_arrangement_cancel_flag: u8,
@@ -42,7 +44,7 @@ impl FramePacking {
     }
 }
 
-#[derive(Drop)]
+#[derive(Clone, Copy)]
 pub enum FramePackingRead {
     Taken(FramePacking, Cursor),
     Refused(Refusal),
