@@ -11,7 +11,7 @@ use bits::element::{signed, u};
 use bits::read::Read;
 use bits::refusal::Refusal;
 
-#[derive(Drop)]
+#[derive(Clone, Copy)]
 pub(crate) enum AngleRead {
     Value(i32, Cursor),
     Refused(Refusal),

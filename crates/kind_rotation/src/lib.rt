@@ -1,4 +1,6 @@
 // Kind 154, sphere rotation: its record and its reader.
+#![tactic(auto)]
+
 ghost use Rattle.std.specs.Prelude.{◌≡◌};
 ghost use Rattle.bits.specs.Bits.{Payload};
 ghost use Rattle.bits.specs.Out.{refusal_in};
@@ -26,7 +28,7 @@ const PITCH_LEAST: i32 = -5_898_240;
 const PITCH_MOST: i32 = 5_898_240;
 
 #[repr(C)]
-#[derive(Drop)]
+#[derive(Clone, Copy)]
 pub struct Rotation {
     pub sphere_rotation_cancel_flag: u8,
     pub sphere_rotation_persistence_flag: u8,
@@ -53,7 +55,7 @@ impl Rotation {
     }
 }
 
-#[derive(Drop)]
+#[derive(Clone, Copy)]
 pub enum RotationRead {
     Taken(Rotation, Cursor),
     Refused(Refusal),
