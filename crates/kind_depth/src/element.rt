@@ -11,7 +11,7 @@ use bits::read::{ByteRead, Read};
 use bits::refusal::Refusal;
 use numbers::depth::{DepthNumber, depth_number};
 
-#[derive(Drop)]
+#[derive(Clone, Copy)]
 pub struct DepthValue {
     pub da_sign_flag: u8,
     pub da_exponent: u8,
@@ -35,7 +35,7 @@ impl DepthValue {
     }
 }
 
-#[derive(Drop)]
+#[derive(Clone, Copy)]
 pub(crate) enum ElementRead {
     Taken(DepthValue, Cursor),
     Refused(Refusal),

@@ -1,4 +1,6 @@
 // Kind 177, depth representation information: its record and its reader.
+#![tactic(auto)]
+
 pub mod element;
 pub mod model;
 
@@ -18,7 +20,7 @@ use bits::read::{ByteRead, Onward, Read};
 use bits::refusal::Refusal;
 use format::limit::at_most;
 
-#[derive(Drop)]
+#[derive(Clone, Copy)]
 pub struct Depth {
     pub z_near_flag: u8,
     pub z_far_flag: u8,
@@ -58,7 +60,7 @@ impl Depth {
 }
 
 // The record, which is zeros on a refusal, beside where the reading goes on.
-#[derive(Drop)]
+#[derive(Clone, Copy)]
 pub struct DepthRead {
     pub record: Depth,
     pub onward: Onward,

@@ -16,14 +16,14 @@ pub const MOST: usize = 63;
 
 const NUM_MINUS1_MOST: u32 = MOST as u32 - 1;
 
-#[derive(Drop)]
+#[derive(Clone, Copy)]
 pub(crate) struct Model {
     pub count: u8,
     pub numbers: [u16; MOST],
 }
 
 // The list, which is empty on a refusal, beside where the reading goes on.
-#[derive(Drop)]
+#[derive(Clone, Copy)]
 pub(crate) struct ModelRead {
     pub model: Model,
     pub onward: Onward,
@@ -44,7 +44,7 @@ impl ModelRead {
 }
 
 // The numbers, which are zeros on a refusal, beside where the reading goes on.
-#[derive(Drop)]
+#[derive(Clone, Copy)]
 struct NumbersRead {
     pub numbers: [u16; MOST],
     pub onward: Onward,
