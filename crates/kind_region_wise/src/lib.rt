@@ -1,4 +1,6 @@
 // Kind 155, region-wise packing: its record and its reader.
+#![tactic(auto)]
+
 mod list;
 pub mod region;
 
@@ -21,7 +23,7 @@ use list::{no_regions, read_count, read_regions};
 pub const MOST: usize = 16;
 
 #[repr(C)]
-#[derive(Drop)]
+#[derive(Clone, Copy)]
 pub struct RegionWise {
     pub rwp_cancel_flag: u8,
     pub rwp_persistence_flag: u8,
@@ -45,14 +47,14 @@ impl RegionWise {
 }
 
 // The record, of zeros on a refusal, beside where the reading goes on.
-#[derive(Drop)]
+#[derive(Clone, Copy)]
 pub struct RegionWiseRead {
     pub record: RegionWise,
     pub onward: Onward,
 }
 
 // What stands before the regions. It is read by itself, so that few bytes are carried up to them: a record is large.
-#[derive(Drop)]
+#[derive(Clone, Copy)]
 struct Head {
     pub rwp_cancel_flag: u8,
     pub rwp_persistence_flag: u8,
@@ -108,7 +110,7 @@ impl Head {
 }
 
 // The head, of zeros on a refusal, beside where the reading goes on: at the regions, of which a cancelled message has none.
-#[derive(Drop)]
+#[derive(Clone, Copy)]
 struct HeadRead {
     pub head: Head,
     pub onward: Onward,

@@ -32,7 +32,7 @@ pub(crate) fn read_count(s: &[u8], c: Cursor) -> ByteRead
 }
 
 // A message's regions, and zeros in every entry past them; zeros alone on a refusal.
-#[derive(Drop)]
+#[derive(Clone, Copy)]
 pub(crate) struct RegionsRead {
     pub regions: [Region; MOST],
     pub onward: Onward,

@@ -14,7 +14,7 @@ use format::guard::guard_type;
 
 // Where a region lies in the projected picture.
 #[repr(C)]
-#[derive(Drop)]
+#[derive(Clone, Copy)]
 pub struct ProjectedArea {
     pub rwp_proj_region_width: u32,
     pub rwp_proj_region_height: u32,
@@ -24,7 +24,7 @@ pub struct ProjectedArea {
 
 // And in the packed one.
 #[repr(C)]
-#[derive(Drop)]
+#[derive(Clone, Copy)]
 pub struct PackedArea {
     pub rwp_packed_region_width: u16,
     pub rwp_packed_region_height: u16,
@@ -34,7 +34,7 @@ pub struct PackedArea {
 
 // rwp_guard_band_type[ i ][ j ] for j = 0, 1, 2, 3: of the left, right, top and bottom edge. Reserved types, 4 to 7, are 0 here.
 #[repr(C)]
-#[derive(Drop)]
+#[derive(Clone, Copy)]
 pub struct GuardTypes {
     pub left: u8,
     pub right: u8,
@@ -43,7 +43,7 @@ pub struct GuardTypes {
 }
 
 #[repr(C)]
-#[derive(Drop)]
+#[derive(Clone, Copy)]
 pub struct GuardBands {
     pub rwp_left_guard_band_width: u8,
     pub rwp_right_guard_band_width: u8,
@@ -54,7 +54,7 @@ pub struct GuardBands {
 }
 
 #[repr(C)]
-#[derive(Drop)]
+#[derive(Clone, Copy)]
 pub struct Region {
     pub rwp_transform_type: u8,
     pub rwp_guard_band_flag: u8,
@@ -100,7 +100,7 @@ impl Region {
     }
 }
 
-#[derive(Drop)]
+#[derive(Clone, Copy)]
 pub(crate) enum RegionRead {
     Taken(Region, Cursor),
     Refused(Refusal),
