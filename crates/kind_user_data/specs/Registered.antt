@@ -1,6 +1,5 @@
 -- Kind 4: H.274 8.3.1, user_data_registered_itu_t_t35( payloadSize ), up to its payload bytes.
-use Rattle.std.specs.Prelude.{ℕ, eqb}
-use Rattle.bits.specs.Choice.{if◌then◌else◌}
+use Rattle.std.specs.Prelude.{ℕ, if◌then◌else◌, eqb}
 use Rattle.bits.specs.Out.{Out, taken, refused}
 use Rattle.format.specs.Format.{Format, done, ◌>>=◌}
 use Rattle.format.specs.Syntax.{b, ◌at◌, when}

@@ -11,7 +11,7 @@ use bits::element::byte;
 use bits::read::ByteRead;
 use bits::refusal::Refusal;
 
-#[derive(Drop)]
+#[derive(Clone, Copy)]
 pub struct Registered {
     pub itu_t_t35_country_code: u8,
     // Coded only after the country code 255.
@@ -40,7 +40,7 @@ impl Registered {
     }
 }
 
-#[derive(Drop)]
+#[derive(Clone, Copy)]
 pub enum RegisteredRead {
     Taken(Registered, Cursor),
     Refused(Refusal),

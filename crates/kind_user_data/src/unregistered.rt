@@ -9,7 +9,7 @@ use bits::cursor::Cursor;
 use bits::identifier::identifier;
 use bits::read::Onward;
 
-#[derive(Drop)]
+#[derive(Clone, Copy)]
 pub struct Unregistered {
     pub uuid_iso_iec_11578: [u8; 16],
 }
@@ -26,7 +26,7 @@ impl Unregistered {
 }
 
 // The record, which is zeros on a refusal, beside where the reading goes on.
-#[derive(Drop)]
+#[derive(Clone, Copy)]
 pub struct UnregisteredRead {
     pub record: Unregistered,
     pub onward: Onward,

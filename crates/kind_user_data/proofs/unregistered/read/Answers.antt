@@ -1,16 +1,12 @@
--- `kind_user_data::unregistered::read` meets its contract: what `identifier` read, as the table says it.
--- Assumes nothing.
-use Prim.Native.Nat.{ℕ}
-use mathlib.Core.Path.{◌≡◌, refl, sym, ap, ◌∙◌}
-use borrow.Author.Rules.{rules}
+-- what `identifier` read, as the table says it
+use Rattle.std.proofs.Common.{ℕ, ◌≡◌, ◌∙◌, refl, sym, ap}
 use Rattle.bits.specs.Out.{Out, taken, refused, after}
 use Rattle.bits.specs.Elements.{u_at}
 use Rattle.bits.specs.Identifier.{bytes_of, identifier_read}
 use Rattle.kind_user_data.specs.Unregistered.{unregistered_read}
 use Rattle.kind_user_data.specs.declared.unregistered.UnregisteredRead.{UnregisteredRead}
 use Rattle.kind_user_data.proofs.Heads.{unregistered-is, named}
-use Rattle.kind_user_data.proofs.unregistered.read.Statement.{statement}
-use Rattle.kind_user_data.proofs.unregistered.read.Tie as tie
+use Rattle.kind_user_data.proofs.unregistered.read.Goals as goal
 
 -- the code's answer, from the leaf's
 same : (o : Out ℕ) → ◌≡◌ {A = UnregisteredRead}
@@ -20,10 +16,7 @@ unfolding bytes_of
 same (taken v q) = refl
 same (refused r) = refl
 
-returns : tie.Need-returns
+pub returns : goal.returns
 returns c =
-    let a = c.before.before.before.args in
-    rw c.before.identifier.ensures (same (u_at a.s.now a.c.at 128) ∙ ap unregistered_read (sym (unregistered-is a.s.now a.c.at)))
-
-pub read_spec : {M : Type 1} → statement M
-read_spec = tie.close (tie.spec (λ c κs. search rules) returns)
+    let a = c.args in
+    rw c.identifier-r.ensures (same (u_at a.s.now a.c.at 128) ∙ ap unregistered_read (sym (unregistered-is a.s.now a.c.at)))
