@@ -12,7 +12,7 @@ use borrow.Author.Tests.{eqb-true}
 use denote.Enum.Declared.{tag_of}
 use types.Run.{OneOf, miss}
 use lib.Dec.{eqb}
-use Rattle.bits.specs.Choice.{if◌then◌else◌}
+use Rattle.std.specs.Prelude.{if◌then◌else◌}
 use Rattle.bits.specs.declared.refusal.Refusal.{Refusal}
 use Rattle.format.specs.Faithful.{Faithful}
 use Rattle.format.specs.Whole.{refused}

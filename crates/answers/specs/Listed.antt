@@ -1,6 +1,5 @@
 -- The kinds of RULES 4: number, record, how a payload of the kind is read as a whole, and what an answer has of its record.
-use Rattle.std.specs.Prelude.{ℕ, ◌≡◌, Bool, true, false, ◌||◌, List, [], ◌∷◌, eqb}
-use Rattle.bits.specs.Choice.{if◌then◌else◌}
+use Rattle.std.specs.Prelude.{ℕ, ◌≡◌, Bool, true, false, ◌||◌, List, [], ◌∷◌, eqb, if◌then◌else◌}
 use Rattle.bits.specs.Bits.{bits_of}
 use Rattle.format.specs.Format.{Format}
 use Rattle.format.specs.Format as format

@@ -10,7 +10,7 @@ use kind_orientation::Orientation;
 use kind_rotation::Rotation;
 use kind_user_data::registered::Registered;
 
-#[derive(Drop)]
+#[derive(Clone, Copy)]
 pub enum Kind {
     FramePacking,
     Orientation,
@@ -24,7 +24,7 @@ pub enum Kind {
 }
 
 // The kind that a number names, if it names one.
-#[derive(Drop)]
+#[derive(Clone, Copy)]
 pub enum Named {
     Listed(Kind),
     Unlisted,
@@ -66,7 +66,7 @@ impl Named {
 }
 
 // A message of a kind that a slot holds. A record that holds an array stands beside the message, in the answer; here and below.
-#[derive(Drop)]
+#[derive(Clone, Copy)]
 pub enum LastingMessage {
     FramePacking(FramePacking),
     Orientation(Orientation),
@@ -76,7 +76,7 @@ pub enum LastingMessage {
 }
 
 // A message of a kind that is read and not held.
-#[derive(Drop)]
+#[derive(Clone, Copy)]
 pub enum PassingMessage {
     Alpha(Alpha),
     Depth,
@@ -84,7 +84,7 @@ pub enum PassingMessage {
     Unregistered,
 }
 
-#[derive(Drop)]
+#[derive(Clone, Copy)]
 pub enum Message {
     // Of no listed kind.
     Nothing,

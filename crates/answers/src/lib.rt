@@ -1,4 +1,6 @@
 // What the reader answers, and the number that a caller gets.
+#![tactic(auto)]
+
 pub mod kind;
 
 ghost use Rattle.std.specs.Prelude.{◌≡◌};
@@ -13,7 +15,7 @@ use kind_region_wise::RegionWise;
 use kind_user_data::registered::Registered;
 use kind_user_data::unregistered::Unregistered;
 
-#[derive(Drop)]
+#[derive(Clone, Copy)]
 pub enum Outcome {
     Taken,
     SetAside,
@@ -34,14 +36,14 @@ impl Outcome {
 }
 
 // The byte at which the rest of a payload of kind 4 or 5 begins.
-#[derive(Drop)]
+#[derive(Clone, Copy)]
 pub enum Rest {
     From(usize),
     Nowhere,
 }
 
 // The records that hold an array, each zeros where the message is of another kind.
-#[derive(Drop)]
+#[derive(Clone, Copy)]
 pub struct Beside {
     pub region_wise: RegionWise,
     pub depth: Depth,
@@ -62,7 +64,7 @@ impl Beside {
 }
 
 // An answer but for the records beside its message. On a refusal the message is zeros, and there is no rest.
-#[derive(Drop)]
+#[derive(Clone, Copy)]
 pub struct Brief {
     pub outcome: Outcome,
     pub message: Message,
@@ -122,7 +124,7 @@ impl Brief {
 }
 
 // On a refusal the records beside the message are zeros too.
-#[derive(Drop)]
+#[derive(Clone, Copy)]
 pub struct Answer {
     pub outcome: Outcome,
     pub message: Message,
