@@ -2,7 +2,7 @@
 -- Assumes nothing.
 use mathlib.Core.Path.{◌≡◌, refl}
 use denote.Enum.Declared.{tag_of}
-use types.Run.{OneOf}
+use types.Run.{OneOf, hit}
 use Rattle.format.specs.Whole.{Reading, taken, set_aside, refused}
 use Rattle.answers.specs.contracts.kind.Kind.{the_type}
 use Rattle.answers.proofs.KindLaws.{unaccompanied, nothing-beside}
@@ -15,6 +15,18 @@ pub alone : (k : Kind) → OneOf unaccompanied (tag_of the_type k) → (x : Read
 alone k h (taken a e) = rw (nothing-beside k h a)
 alone k h (set_aside a e) = rw (nothing-beside k h a)
 alone k h (refused r) = rw (nothing-beside k h (zeros k))
+
+-- a kind that is none of three has none
+pub unnamed : (k : Kind) → (k ≡ kinds.RegionWise → ⊥) → (k ≡ kinds.Depth → ⊥) → (k ≡ kinds.Unregistered → ⊥) → OneOf unaccompanied (tag_of the_type k)
+unnamed kinds.FramePacking r d u = hit unaccompanied 0 tt
+unnamed kinds.Orientation r d u = hit unaccompanied 1 tt
+unnamed kinds.Equirectangular r d u = hit unaccompanied 2 tt
+unnamed kinds.Rotation r d u = hit unaccompanied 3 tt
+unnamed kinds.RegionWise r d u = absurd (r refl)
+unnamed kinds.Alpha r d u = hit unaccompanied 5 tt
+unnamed kinds.Depth r d u = absurd (d refl)
+unnamed kinds.Registered r d u = hit unaccompanied 7 tt
+unnamed kinds.Unregistered r d u = absurd (u refl)
 
 -- of those three, the other records are zeros
 

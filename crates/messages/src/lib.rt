@@ -1,4 +1,6 @@
 // A payload of each kind: its message, then its end, then whether it is set aside. The slice is the payload and nothing else.
+#![tactic(auto)]
+
 ghost use Rattle.std.specs.Prelude.{◌≡◌};
 ghost use Rattle.bits.specs.Bits.{Payload};
 ghost use Rattle.format.specs.Whole.{ended};
@@ -101,7 +103,7 @@ fn region_wise_brief(s: &[u8]) -> Brief
 }
 
 // What a payload of kind 155 is answered, with its record.
-#[derive(Drop)]
+#[derive(Clone, Copy)]
 pub struct RegionWiseAnswer {
     pub brief: Brief,
     pub record: RegionWise,
@@ -153,7 +155,7 @@ fn depth_brief(s: &[u8]) -> Brief
 }
 
 // What a payload of kind 177 is answered, with its record.
-#[derive(Drop)]
+#[derive(Clone, Copy)]
 pub struct DepthAnswer {
     pub brief: Brief,
     pub record: Depth,
@@ -208,7 +210,7 @@ fn registered(s: &[u8]) -> Brief
 }
 
 // What a payload of kind 5 is answered, with its record.
-#[derive(Drop)]
+#[derive(Clone, Copy)]
 pub struct UnregisteredAnswer {
     pub brief: Brief,
     pub record: Unregistered,

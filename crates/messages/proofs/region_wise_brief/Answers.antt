@@ -1,0 +1,22 @@
+use Rattle.std.proofs.Common.{◌∙◌, refl, sym, ap, false}
+use Rattle.format.specs.Reading.{run_at}
+use Rattle.kind_region_wise.specs.RegionWise.{region_wise, region_wise_read}
+use Rattle.kind_region_wise.specs.declared.RegionWiseRead.{RegionWiseRead}
+use Rattle.answers.specs.Answer.{brief_of}
+use Rattle.answers.specs.declared.kind.Kind.TheVariants.{RegionWise}
+use Rattle.messages.proofs.Finish.{by-refused, by-finished, went, stood}
+use Rattle.messages.proofs.region_wise_brief.Goals as goal
+
+pub returns-in_default : goal.returns-in_default
+returns-in_default c =
+    rw (c.refused.ensures, c.refusal.ensures, c.in_default.is)
+    (ap brief_of (by-refused RegionWise c.args.s.now refl
+    (stood region_wise_read (λ x. x.onward) (λ x. x.«record») (λ a q. refl) (λ a q. refl) (λ r. refl) (run_at region_wise c.args.s.now 0)
+    (ap (λ (x : RegionWiseRead). x.onward) (sym c.read-r.ensures) ∙ c.in_default.is))))
+
+pub returns : goal.returns
+returns c =
+    rw (c.finished.ensures, c.tail.ensures)
+    (by-finished RegionWise c.args.s.now refl
+    (went region_wise_read (λ x. x.onward) (λ x. x.«record») (λ a q. refl) (λ a q. refl) (λ r. refl) (run_at region_wise c.args.s.now 0)
+    (ap (λ (x : RegionWiseRead). x.onward) (sym c.read-r.ensures) ∙ c.in-Next.is)) refl false refl)
