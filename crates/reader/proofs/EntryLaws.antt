@@ -75,3 +75,11 @@ module _ (n size room : ℕ) where
       go (unlisted f e) = absurd (f k h)
       go (oversized j f l e) = l
       go (payload j f b c e) = absurd (miss others 2 tt (rw e at o))
+
+  pub unless-over : (k : Kind) → n ≡ number k → ((j : Kind) → entry_to n size room ≡ Payload j → ⊥) → (8192 < size) ⊎ (room < size)
+  unless-over k h o = go judged
+    where
+      go : Judged → (8192 < size) ⊎ (room < size)
+      go (unlisted f e) = absurd (f k h)
+      go (oversized j f l e) = l
+      go (payload j f b c e) = absurd (o j e)

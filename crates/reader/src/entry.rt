@@ -4,7 +4,7 @@ ghost use Rattle.reader.specs.Entry.{entry_to};
 
 use answers::kind::{Kind, Named};
 
-#[derive(Drop)]
+#[derive(Clone, Copy)]
 pub enum Entry {
     Unlisted,
     Oversized(Kind),

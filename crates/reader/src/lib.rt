@@ -1,4 +1,6 @@
 // One reader for any kind, size and bytes.
+#![tactic(auto)]
+
 pub mod brief;
 pub mod entry;
 pub mod payload;
