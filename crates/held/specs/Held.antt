@@ -1,6 +1,5 @@
 -- What a slot holds, of each of the five kinds one record or nothing; and what a message and a picture leave of it, said once over the kinds.
-use Rattle.std.specs.Prelude.{eqb}
-use Rattle.bits.specs.Choice.{if◌then◌else◌}
+use Rattle.std.specs.Prelude.{eqb, if◌then◌else◌}
 use Rattle.answers.specs.Listed.{zeros}
 use Rattle.held.specs.Lasting.{Lasting, frame_packing, orientation, equirectangular, rotation, region_wise, kind_of, RecordOf, cancel_of, persistence_of, HeldOf, marked, value_of}
 use Rattle.held.specs.declared.Held.{Held}

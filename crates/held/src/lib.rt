@@ -1,7 +1,8 @@
 // What a slot holds: of each of five kinds one record, or nothing. Of each kind there is what a taken message leaves,
 // nothing where it cancels; and what a picture leaves, nothing where the persistence flag is 0.
-ghost use Rattle.std.specs.Prelude.{◌≡◌, eqb};
-ghost use Rattle.bits.specs.Choice.{if◌then◌else◌};
+#![tactic(auto)]
+
+ghost use Rattle.std.specs.Prelude.{◌≡◌, eqb, if◌then◌else◌};
 ghost use Rattle.kind_region_wise.specs.RegionWise.{BareCancel};
 ghost use Rattle.held.specs.Lasting.{frame_packing, orientation, equirectangular, rotation, region_wise};
 ghost use Rattle.held.specs.Held.{none_of, taken_of, kept_of, nothing, kept, took};
@@ -14,7 +15,7 @@ use kind_rotation::Rotation;
 
 // on is 1 where a record is held, here and below. A record of zeros is a message too, so nothing has a mark of its own.
 #[repr(C)]
-#[derive(Drop)]
+#[derive(Clone, Copy)]
 pub struct HeldFramePacking {
     pub on: u8,
     pub value: FramePacking,
@@ -48,7 +49,7 @@ impl HeldFramePacking {
 }
 
 #[repr(C)]
-#[derive(Drop)]
+#[derive(Clone, Copy)]
 pub struct HeldOrientation {
     pub on: u8,
     pub value: Orientation,
@@ -82,7 +83,7 @@ impl HeldOrientation {
 }
 
 #[repr(C)]
-#[derive(Drop)]
+#[derive(Clone, Copy)]
 pub struct HeldEquirectangular {
     pub on: u8,
     pub value: Equirectangular,
@@ -116,7 +117,7 @@ impl HeldEquirectangular {
 }
 
 #[repr(C)]
-#[derive(Drop)]
+#[derive(Clone, Copy)]
 pub struct HeldRotation {
     pub on: u8,
     pub value: Rotation,
@@ -160,7 +161,7 @@ fn mark(cancel: u8) -> u8
 }
 
 #[repr(C)]
-#[derive(Drop)]
+#[derive(Clone, Copy)]
 pub struct HeldRegionWise {
     pub on: u8,
     pub value: RegionWise,
@@ -205,7 +206,7 @@ impl HeldRegionWise {
 }
 
 #[repr(C)]
-#[derive(Drop)]
+#[derive(Clone, Copy)]
 pub struct Held {
     pub frame_packing: HeldFramePacking,
     pub orientation: HeldOrientation,
