@@ -10,7 +10,7 @@ use lib.ListN.{length-set, get_or, set, replicate, get_or-eq_default}
 use lib.Seq.{get_or-set_same, get_or-set_other, set-get_or}
 use borrow.Author.Tests.{lt-ltb, le-ltb}
 use Rattle.bits.proofs.BitLaws.{below}
-use Rattle.bits.specs.Choice.{if◌then◌else◌}
+use Rattle.std.specs.Prelude.{if◌then◌else◌}
 use Rattle.held.specs.Held.{nothing, kept}
 use Rattle.slots.specs.Slots.{call_number, refused, fresh_slot, closed_slot, is_open, holding, when_open, opening, closing, sequencing, picturing, start, Eight, slot_at, with_slot, lifted, Shut, ButFor}
 use Rattle.held.specs.declared.Held.{Held}

@@ -1,7 +1,6 @@
 -- One slot, and what each call answers and leaves of it: RULES 11. Then the eight, to which a call on one is lifted.
-use Rattle.std.specs.Prelude.{ℕ, ◌≤◌, Bool, false, ◌≡◌, ◌≢◌, ◌⊎◌, eqb, ltb, length, replicate, get_or, set}
+use Rattle.std.specs.Prelude.{ℕ, ◌≤◌, Bool, false, ◌≡◌, ◌≢◌, ◌⊎◌, eqb, ltb, length, replicate, get_or, set, if◌then◌else◌}
 use Rattle.bits.specs.Refusals.{refusal_number, by_slot}
-use Rattle.bits.specs.Choice.{if◌then◌else◌}
 use Rattle.held.specs.Held.{nothing, kept}
 use Rattle.held.specs.declared.Held.{Held}
 use Rattle.slots.specs.declared.Slot.{Slot}

@@ -1,5 +1,7 @@
 // One slot and its calls; and the eight, as one value: a call takes them and answers with them as it leaves them. Any value of the types
 // is fine, also one that no call made.
+#![tactic(auto)]
+
 ghost use Rattle.std.specs.Prelude.{◌≡◌};
 ghost use Rattle.slots.specs.Slots.{
   call_number,
@@ -25,7 +27,7 @@ use bits::refusal::Refusal;
 use held::Held;
 
 // The answer of a call that reads nothing.
-#[derive(Drop)]
+#[derive(Clone, Copy)]
 pub enum Answer {
     Done,
     Refused(Refusal),
@@ -45,21 +47,21 @@ impl Answer {
 
 // open is 1 where the slot is open, and any other number is closed.
 #[repr(C)]
-#[derive(Drop)]
+#[derive(Clone, Copy)]
 pub struct Slot {
     pub open: u8,
     pub held: Held,
 }
 
 // An answer, and the slot after the call.
-#[derive(Drop)]
+#[derive(Clone, Copy)]
 pub struct Turned {
     pub answer: Answer,
     pub slot: Slot,
 }
 
 // An answer, the five held records as they were at the picture, and the slot after it.
-#[derive(Drop)]
+#[derive(Clone, Copy)]
 pub struct Shown {
     pub answer: Answer,
     pub held: Held,
@@ -144,20 +146,20 @@ impl Slot {
 }
 
 #[repr(C)]
-#[derive(Drop)]
+#[derive(Clone, Copy)]
 pub struct Slots {
     pub slots: [Slot; 8],
 }
 
 // An answer, and the slots after the call.
-#[derive(Drop)]
+#[derive(Clone, Copy)]
 pub struct Called {
     pub answer: Answer,
     pub slots: Slots,
 }
 
 // An answer, the five held records as they were at the picture, and the slots after it.
-#[derive(Drop)]
+#[derive(Clone, Copy)]
 pub struct Pictured {
     pub answer: Answer,
     pub held: Held,
