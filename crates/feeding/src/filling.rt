@@ -12,7 +12,7 @@ use reader::brief::brief;
 
 // The number, and how many extension bits the payload has.
 #[repr(C)]
-#[derive(Drop)]
+#[derive(Clone, Copy)]
 pub struct Reply {
     pub number: u32,
     pub extension: u32,
@@ -52,7 +52,7 @@ fn held_frame_packing(message: LastingMessage) -> HeldFramePacking
     }
 }
 
-#[derive(Drop)]
+#[derive(Clone, Copy)]
 pub struct FilledFramePacking {
     pub reply: Reply,
     pub taken: u8,
@@ -88,7 +88,7 @@ fn held_orientation(message: LastingMessage) -> HeldOrientation
     }
 }
 
-#[derive(Drop)]
+#[derive(Clone, Copy)]
 pub struct FilledOrientation {
     pub reply: Reply,
     pub taken: u8,
@@ -124,7 +124,7 @@ fn held_equirectangular(message: LastingMessage) -> HeldEquirectangular
     }
 }
 
-#[derive(Drop)]
+#[derive(Clone, Copy)]
 pub struct FilledEquirectangular {
     pub reply: Reply,
     pub taken: u8,
@@ -160,7 +160,7 @@ fn held_rotation(message: LastingMessage) -> HeldRotation
     }
 }
 
-#[derive(Drop)]
+#[derive(Clone, Copy)]
 pub struct FilledRotation {
     pub reply: Reply,
     pub taken: u8,
@@ -184,7 +184,7 @@ pub fn rotation(size: u64, bytes: &[u8]) -> FilledRotation
     }
 }
 
-#[derive(Drop)]
+#[derive(Clone, Copy)]
 pub struct FilledRegionWise {
     pub reply: Reply,
     pub taken: u8,

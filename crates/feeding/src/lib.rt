@@ -1,4 +1,6 @@
 // A payload goes into a slot.
+#![tactic(auto)]
+
 pub mod filling;
 
 ghost use Rattle.std.specs.Prelude.{◌≡◌};
@@ -58,7 +60,7 @@ fn shut(kind: u64) -> Answer
 }
 
 // The reader's answer, and the slot after it.
-#[derive(Drop)]
+#[derive(Clone, Copy)]
 pub struct FedSlot {
     pub answer: Answer,
     pub slot: Slot,
@@ -87,7 +89,7 @@ pub fn feed_slot(here: Slot, kind: u64, size: u64, bytes: &[u8]) -> FedSlot
 }
 
 // The reader's answer, and the slots after it.
-#[derive(Drop)]
+#[derive(Clone, Copy)]
 pub struct Fed {
     pub answer: Answer,
     pub slots: Slots,
