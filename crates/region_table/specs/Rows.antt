@@ -1,6 +1,5 @@
 -- The region table: RULES 12, with the offsets of H.274 8.15.5.2.
-use Rattle.std.specs.Prelude.{ℕ, ◌+◌, ◌*◌, ◌/◌, ◌≤◌, ◌<◌, ◌≡◌, ◌⊎◌, List, [], ◌∷◌, ◌++◌, leb, take}
-use Rattle.bits.specs.Choice.{if◌then◌else◌}
+use Rattle.std.specs.Prelude.{ℕ, ◌+◌, ◌*◌, ◌/◌, ◌≤◌, ◌<◌, ◌≡◌, ◌⊎◌, List, [], ◌∷◌, ◌++◌, leb, take, if◌then◌else◌}
 use Rattle.bits.specs.Refusals.{refusal_number, by_table, by_rows}
 use Rattle.bits.specs.declared.refusal.Refusal.{Refusal}
 use Rattle.lent.specs.Lent.{Left, left, over}

@@ -1,10 +1,9 @@
 -- The region table of a slot: 8, 9, 10, or the rows.
-use Rattle.std.specs.Prelude.{ℕ, eqb}
+use Rattle.std.specs.Prelude.{ℕ, eqb, if◌then◌else◌}
 use Rattle.bits.specs.Refusals.{by_slot, by_table}
 use Rattle.kind_region_wise.specs.declared.RegionWise.{RegionWise}
 use Rattle.region_table.specs.Rows.{Table, refuses, table_of}
 use Rattle.region_table.specs.declared.rows.Split.TheVariants.{Whole, Beside, Below}
-use Rattle.bits.specs.Choice.{if◌then◌else◌}
 use Rattle.slots.specs.Slots.{when_open, lifted}
 use Rattle.held.specs.declared.Held.{Held}
 use Rattle.held.specs.declared.HeldFramePacking.{HeldFramePacking}

@@ -1,4 +1,6 @@
 // The region table of what a slot holds.
+#![tactic(auto)]
+
 pub mod rows;
 
 ghost use Rattle.std.specs.Prelude.{◌≡◌, length};
@@ -12,7 +14,7 @@ use held::{Held, HeldFramePacking};
 use slots::{Slot, Slots};
 
 // How the rows are split, where a table can be made.
-#[derive(Drop)]
+#[derive(Clone, Copy)]
 enum Way {
     By(Split),
     Missing,

@@ -11,7 +11,7 @@ use kind_region_wise::{MOST, RegionWise};
 use lent::put;
 
 // How the second half of the rows is shifted.
-#[derive(Drop)]
+#[derive(Clone, Copy)]
 pub enum Split {
     // There is no second half.
     Whole,
@@ -21,7 +21,7 @@ pub enum Split {
     Below,
 }
 
-#[derive(Drop)]
+#[derive(Clone, Copy)]
 pub enum Tabled {
     // How many rows were written.
     Rows(u32),
@@ -30,7 +30,7 @@ pub enum Tabled {
 }
 
 // What a row's places are increased by, in the projected and in the packed picture.
-#[derive(Drop)]
+#[derive(Clone, Copy)]
 struct Shift {
     projected_left: u32,
     projected_top: u32,
