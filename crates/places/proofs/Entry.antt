@@ -9,7 +9,7 @@ use Prim.Native.Nat.{ℕ, suc}
 use mathlib.Core.List.{[], ◌∷◌, List}
 use mathlib.Core.Option.{Option}
 use seplogic.Ra.Ura.{Ura}
-use seplogic.Ra.TreeShare.{full_share}
+use base.Fraction.{full_share}
 use mir.Syntax.{Ty, named, Fn}
 use mir.Val.{Val, vptr}
 use base.Logic.{SProp, ent, emp, via, fst∗}
@@ -93,11 +93,11 @@ module _ (R : RattleType) (m : ℕ) (ss : List (Slot (suc m))) (ks : Kepts ss) (
       abbrev pub Open : R.Denot → List (Item 𝓤)
       Open t = ‵ (part_at R full_share t b o) ∷ ‵ (fobor κs.0 qs.0 (Body (mem R) b o γ)) ∷ ‵ (fobs γ (R.coded.code h)) ∷ ‵ (fauth γ (R.coded.code h)) ∷ raw (toks 𝓛 m κs.1 qs.1) ∷ []
 
-      pub ends : (E : List (Ty × ℕ)) (vs : List (Option Val)) (v : Val) (r : S.Denot) → ent 𝓤 (emp 𝓤) (sem 𝓛 (S.own r (v ∷ []))) → (t : R.Denot) (ws : Fins κs ss ks a) → Φ κs h a r t → Sq 𝓛 (locals 𝓤 E vs (Open t)) (frees E (prop (Post v)))
+      pub ends : (E : List (Ty × ℕ)) (vs : List (Option Val)) (v : Val) (r : S.Denot) → ent 𝓤 (emp 𝓤) (sem 𝓛 (S.own_val r (v ∷ []))) → (t : R.Denot) (ws : Fins κs ss ks a) → Φ κs h a r t → Sq 𝓛 (locals 𝓤 E vs (Open t)) (frees E (prop (Post v)))
       ends E vs v r own t ws e = free_all ! vs $ updating ! $ close_ref ! tt (mem R) t {b = b} {o = o} $ updated ! $
           suffices ! _ (ends_at 𝓛 ended stayed (Said 𝓤 Φ) ((κs, qs, tt, x, at), tt) v r (t, ws) (tt, fits κs ss ks a ws)) $ says ! e $ move ! (2 ∷ 3 ∷ []) $ join ! $ frame ! $
           feq_i ! (List Val) (vptr b o ∷ []) (vptr b o ∷ []) refl $ fjoin3 ! $ use0 𝓛 (‵ (has_of κs ss ks (dropped ss ks) a ws vss)) (had 𝓛 (suc m) κs ss ks a ws vss) $ move ! (1 ∷ 0 ∷ []) $ fjoin ! $
-          use0 𝓛 (‵ (S.own r (v ∷ []))) own $ move ! (1 ∷ 0 ∷ []) $ done !
+          use0 𝓛 (‵ (S.own_val r (v ∷ []))) own $ move ! (1 ∷ 0 ∷ []) $ done !
 
     pub meets : (𝓣 : Tables 𝓤 H) (f : Fn) → Silents 𝓛 (suc m) ss ks → (sp : (κs : Lfts (suc m)) → Spells (types_at ss κs)) → ((κs : Lfts (suc m)) → Tellss (types_at ss κs) (Ises (types_at ss κs)) (sp κs))
         → ((κs : Lfts (suc m)) (qs : Shares (suc m)) (b o : ℕ) (γ : GName) (h : R.Denot) (a : Denots (types_at ss κs)) → Are (types_at ss κs) (Ises (types_at ss κs)) a (valss (types_at ss κs) (sp κs) a)
@@ -107,5 +107,5 @@ module _ (R : RattleType) (m : ℕ) (ss : List (Slot (suc m))) (ks : Kepts ss) (
     meets 𝓣 f silent sp tl walk = walk_Meets 𝓛 ended stayed (Goes-ref 𝓛 (suc m) 0 tt (plain (λ _. R)), all_go 𝓛 (suc m) ss ks silent) (Said 𝓤 Φ) (WpFn 𝓤 H 𝓣.C 𝓣.Λ f) (WpFn-mono 𝓤 H 𝓛.laws 𝓣 f)
         (walked 𝓛 ended stayed (Said 𝓤 Φ) (WpFn 𝓤 H 𝓣.C 𝓣.Λ f) (λ κs. (mut_vals, sp κs)) (λ κs. (mut_Tells (named 0) κs.0 R, tl κs))
         (λ κs qs bounds a _ are. via 𝓤 _ (fst∗ 𝓤 _ (emp 𝓤))
-        (qed 𝓛 ((‵ (flft κs.0 qs.0) ⊛ raw (toks 𝓛 m κs.1 qs.1)) ∷ ‵ (owns (MutRef (named 0) κs.0 R ∷ types_at ss κs) a (vptr a.0.ptr.0 a.0.ptr.1 ∷ [], valss (types_at ss κs) (sp κs) a.1)) ∷ []) ∵
+        (qed 𝓛 ((‵ (flft κs.0 qs.0) ⊛ raw (toks 𝓛 m κs.1 qs.1)) ∷ ‵ (owns (MutRef (named 0) κs.0 R ∷ types_at ss κs) a (vptr a.0.ref_ptr.0 a.0.ref_ptr.1 ∷ [], valss (types_at ss κs) (sp κs) a.1)) ∷ []) ∵
         split ! $ move ! (2 ∷ []) $ fsplit ! $ fsplit3 ! $ drop ! $ move ! (2 ∷ 0 ∷ 1 ∷ []) $ walk κs qs a.0.ref_ptr.0 a.0.ref_ptr.1 a.0.ghost_name a.0.now a.1 are.1)))

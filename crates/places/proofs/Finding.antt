@@ -9,7 +9,7 @@ use Prim.Native.Nat.{ℕ, ◌+◌, ◌*◌, ◌≤◌, ◌<◌, ◌^◌}
 use mathlib.Core.List.{[], ◌∷◌, List}
 use lib.Dec.{T, eqb, leb→le, nleb→lt}
 use seplogic.Ra.Ura.{Ura}
-use seplogic.Ra.TreeShare.{full_share}
+use base.Fraction.{full_share}
 use mir.Syntax.{w8, w64, unsigned, Opd as Operand, int, copy, rv_opd, op2, addr_of, le, ne, mul, offset, place, deref, field, Body, seq, skip, cond, assign}
 use mir.Val.{Val, vbool, vint, vptr, has_ty}
 use base.Fml.{Share, fat, froom}

@@ -20,7 +20,7 @@ use denote.Laws.{Is}
 use denote.Memory.{mem}
 use denote.Plain.{uint_vals, uint_Tells, uint_Makes}
 use denote.Builtin.{u8, u64}
-use denote.Ref.{Bor, MutBor}
+use denote.Ref.{Bor}
 use denote.Slice.{shr_slice_vals, ShrSlice, shr_slice_Tells}
 use denote.Signature.{Slot, plain, shr_slice, types_at}
 use denote.Steps.{owned, nothing}
@@ -50,7 +50,7 @@ module _ (R Y : RattleType) where
   module _ {M : Type 1} {𝓤 : Ura M} (𝓛 : Logic 𝓤) (Φ : Claim) where
     open 𝓛 use {H}
 
-    module _ (κ κ' : Lft) (q q' : Share) (b o : ℕ) (γ : GName) (h : R.Denot) (n kind size : ℕ) (bytes : MutBor (List ℕ)) where
+    module _ (κ κ' : Lft) (q q' : Share) (b o : ℕ) (γ : GName) (h : R.Denot) (n kind size : ℕ) (bytes : Bor (List ℕ)) where
       abbrev args : Denots (types_at payload (κ, (κ', tt)))
       args = (n, (kind, (size, (bytes, tt))))
 

@@ -6,8 +6,8 @@ use Prim.Native.Nat.{ℕ, ◌+◌, ◌*◌, ◌≤◌, ◌<◌, ◌^◌}
 use mathlib.Core.List.{[], ◌∷◌, List}
 use lib.Dec.{lit<, leb→le, nleb→lt}
 use seplogic.Ra.Ura.{Ura}
-use seplogic.Ra.TreeShare.{full_share}
-use mir.Syntax.{Name, named, mut, w32, w64, ty_int, ty_bool, ty_ptr, ty_ref, unsigned, Opd as Operand, int, copy, rv_opd, op2, addr_of, le, mul, offset, place, deref, field, seq, skip, cond, assign, call, return, value_local, local, Fn}
+use base.Fraction.{full_share}
+use mir.Syntax.{Callee, named, mut, w32, w64, ty_int, ty_bool, ty_ptr, ty_ref, unsigned, Opd as Operand, int, copy, rv_opd, op2, addr_of, le, mul, offset, place, deref, field, seq, skip, cond, assign, call, return, value_local, local, Fn}
 use mir.Val.{vint, vptr}
 use base.Fml.{GName, Lft, Share}
 use prog.Wp.{Env, Tables, WpFn}
@@ -25,11 +25,13 @@ use Rattle.places.proofs.Numbered.{Claim, Post, Shut, ends, Met, meets, maker, m
 use Rattle.places.proofs.Store.{Store, changes}
 
 -- k is the constant that is an element's width, and g the function that makes the new element
-module _ (S : Store) (k : Operand) (g : Name) where
+module _ (S : Store) (k : Operand) (g : Callee) where
   abbrev pub shape : Fn
   shape = record {
     lifetimes = 1;
     outlives = [];
+    ty_params = [];
+    givens = 0;
     params = 2;
     locals =
         local (ty_int w32) value_local

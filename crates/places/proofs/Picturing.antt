@@ -7,8 +7,8 @@ use Prim.Native.Nat.{ℕ, ◌+◌, ◌*◌, ◌≤◌, ◌<◌, ◌^◌}
 use mathlib.Core.List.{[], ◌∷◌, List}
 use lib.Dec.{T, eqb, lit<}
 use seplogic.Ra.Ura.{Ura}
-use seplogic.Ra.TreeShare.{full_share}
-use mir.Syntax.{Name, Body, named, erased, mut, w8, w32, w64, ty_int, ty_bool, ty_ptr, ty_ref, Opd as Operand, int, copy, rv_opd, op2, eq, place, deref, seq, skip, cond, assign, call, return, value_local, local, Fn}
+use base.Fraction.{full_share}
+use mir.Syntax.{Callee, Body, named, erased, mut, w8, w32, w64, ty_int, ty_bool, ty_ptr, ty_ref, Opd as Operand, int, copy, rv_opd, op2, eq, place, deref, seq, skip, cond, assign, call, return, value_local, local, Fn}
 use mir.Val.{Val, vint, vbool, vptr, WT, has_ty}
 use base.Fml.{GName, Lft, Share}
 use prog.Wp.{Env, spot_of, Tables, WpFn}
@@ -47,7 +47,7 @@ pub record Lapse (P : RattleType) : Type 3 where
   pub on : Part P u8
   pub value : Part P Q
   pub stays : Seen P u8
-  pub z : Name
+  pub z : Callee
   pub Z : Q.Denot
 
 abbrev pub chosen : {A : Type 0} → Bool → A → A → A
@@ -67,7 +67,7 @@ abbrev pub lapsed : {P : RattleType} → Lapse P → P.Denot → P.Denot
 lapsed L x = chosen (eqb (L.stays.get x) 0) (L.value.put (L.on.put x 0) L.Z) x
 
 -- U is what an element holds, and z makes what shows nothing
-module _ (S : Store) (U : RattleType) (DU : Data U) (all : Seen S.P U) (L₁ L₂ L₃ L₄ L₅ : Lapse S.P) (k : Operand) (z : Name) where
+module _ (S : Store) (U : RattleType) (DU : Data U) (all : Seen S.P U) (L₁ L₂ L₃ L₄ L₅ : Lapse S.P) (k : Operand) (z : Callee) where
   abbrev away : ℕ → Body
   away i = seq (call z [] (place i [])) (seq (assign (place 3 (deref (lone U.mir) ∷ [])) (rv_opd (copy (place i [])))) (seq (assign (place 0 []) (rv_opd (int w32 8))) return))
 
@@ -86,6 +86,8 @@ module _ (S : Store) (U : RattleType) (DU : Data U) (all : Seen S.P U) (L₁ L�
   shape = record {
     lifetimes = 2;
     outlives = [];
+    ty_params = [];
+    givens = 0;
     params = 3;
     locals =
         local (ty_int w32) value_local

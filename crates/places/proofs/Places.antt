@@ -5,13 +5,13 @@ use mathlib.Core.Path.{◌≡◌, refl, sym, ap, subst}
 use Prim.Native.Nat.{ℕ, zero, suc, ◌+◌, ◌-◌}
 use mathlib.Core.List.{List, [], ◌∷◌}
 use seplogic.Ra.Ura.{Ura}
-use seplogic.Ra.TreeShare.{full_share}
+use base.Fraction.{full_share}
 use lib.Dec.{T, eqb, ltb}
 use mathlib.Core.Bool.{Bool, true, false, not}
 use mathlib.Core.Option.{some as some'}
 use mir.Fields.{get_v, set_v}
 use prog.Memory.{field_at, field_of}
-use mir.Syntax.{Name, Sym, Ty, Tys, ty_struct, Place, place, field, Opd as Operand, Rv as RValue, copy, assign, Body, seq, skip, cond, call, return}
+use mir.Syntax.{Callee, Sym, Ty, Tys, ty_struct, Place, place, field, Opd as Operand, Rv as RValue, copy, assign, Body, seq, skip, cond, call, return}
 use mir.Val.{Val, Vals, vstruct, vbool, WT, has_ty}
 use base.Logic.{SProp, ent, sep, wand, ex, emp, via, id⊢, apply∗}
 use base.Fml.{Share, fat, froom}
@@ -72,8 +72,8 @@ module _ {M : Type 1} {𝓤 : Ura M} {𝓛 : Logic 𝓤} {K : Type 0} {Γ : List
         (subst (λ (j : Item 𝓤). ent 𝓤 (⋆ 𝓛 Γ) (sep 𝓤 (mean 𝓛 j) (⋆ 𝓛 (del 𝓛 n Γ)))) e (pull 𝓛 n Γ))
         (qed 𝓛 (‵ (part_at R q h b o) ∷ raw (⋆ 𝓛 (del 𝓛 n Γ)) ∷ []) {P = read 𝓤 H (lone F.mir) b p Kt} (
         use1 𝓛 (‵ (part_at F q f b p) ⊛ raw (wand 𝓤 (sem 𝓛 (part_at F q f b p)) (sem 𝓛 (part_at R q h b o)))) part $ split ! $
-        use1 𝓛 (some (λ (w : Val). ‵ (fat q (lone F.mir) b p w) ⊛ ‵ (F.own f (w ∷ [])))) (part_out 𝓛 F one q f b p) $ pick ! (λ w. split ! $ move ! (1 ∷ []) $
-        peeks ! F (Is F) (shows 𝓛 F) f (w ∷ []) (λ is. rewrite ! 0 (λ (us : List Val). ‵ (F.own f us)) (tl f (w ∷ []) is) refl $
+        use1 𝓛 (some (λ (w : Val). ‵ (fat q (lone F.mir) b p w) ⊛ ‵ (F.own_val f (w ∷ [])))) (part_out 𝓛 F one q f b p) $ pick ! (λ w. split ! $ move ! (1 ∷ []) $
+        peeks ! F (Is F) (shows 𝓛 F) f (w ∷ []) (λ is. rewrite ! 0 (λ (us : List Val). ‵ (F.own_val f us)) (tl f (w ∷ []) is) refl $
         rewrite ! 1 (λ (u : Val). ‵ (fat q (lone F.mir) b p u)) (ap only (tl f (w ∷ []) is)) refl $ move ! (1 ∷ []) $
         -- [the part's cell; what it owns; the way back; the rest]
         show ! (λ (s : Share). ex 𝓤 (λ (u : Val). sep 𝓤 (H.at s (lone F.mir) b p u) (wand 𝓤 (H.at s (lone F.mir) b p u) (Kt u)))) q $
@@ -91,13 +91,13 @@ module _ {M : Type 1} {𝓤 : Ura M} {𝓛 : Logic 𝓤} {K : Type 0} {Γ : List
         (subst (λ (j : Item 𝓤). ent 𝓤 (⋆ 𝓛 Γ) (sep 𝓤 (mean 𝓛 j) (⋆ 𝓛 (del 𝓛 n Γ)))) e (pull 𝓛 n Γ))
         (qed 𝓛 (‵ (part_at R q h b o) ∷ raw (⋆ 𝓛 (del 𝓛 n Γ)) ∷ []) {P = aim 𝓤 H G} (
         use1 𝓛 (‵ (part_at F q f b p) ⊛ raw (wand 𝓤 (sem 𝓛 (part_at F q f b p)) (sem 𝓛 (part_at R q h b o)))) part $ split ! $
-        use1 𝓛 (some (λ (w : Val). ‵ (fat q (lone F.mir) b p w) ⊛ ‵ (F.own f (w ∷ [])))) (part_out 𝓛 F one q f b p) $ pick ! (λ w. split ! $ move ! (1 ∷ []) $
+        use1 𝓛 (some (λ (w : Val). ‵ (fat q (lone F.mir) b p w) ⊛ ‵ (F.own_val f (w ∷ [])))) (part_out 𝓛 F one q f b p) $ pick ! (λ w. split ! $ move ! (1 ∷ []) $
         peeks ! F (Is F) (shows 𝓛 F) f (w ∷ []) (λ is. move ! (1 ∷ 0 ∷ []) $ use2 𝓛 (‵ (part_at F q f b p)) (part_in 𝓛 F one q f b p w) $
         use2 𝓛 (‵ (part_at R q h b o)) (apply∗ 𝓤 (sem 𝓛 (part_at F q f b p)) (sem 𝓛 (part_at R q h b o))) $
         by ! (via 𝓤 (⋆ 𝓛 Γ) (subst (λ (j : Item 𝓤). ent 𝓤 (sep 𝓤 (mean 𝓛 j) (⋆ 𝓛 (del 𝓛 n Γ))) (⋆ 𝓛 Γ)) e (unpull 𝓛 n Γ)) (k w is).prf)))));
   }
 
-  pub store-part : K → (n : ℕ) (R F : RattleType) (h h' : R.Denot) (f f' : F.Denot) (b o p : ℕ) → One F → (v : Val) → T (has_ty (lone F.mir) v) × WT v → ent 𝓤 (emp 𝓤) (sem 𝓛 (F.own f' (v ∷ [])))
+  pub store-part : K → (n : ℕ) (R F : RattleType) (h h' : R.Denot) (f f' : F.Denot) (b o p : ℕ) → One F → (v : Val) → T (has_ty (lone F.mir) v) × WT v → ent 𝓤 (emp 𝓤) (sem 𝓛 (F.own_val f' (v ∷ [])))
       → nth 𝓛 n Γ ≡ ‵ (part_at R full_share h b o) → Within 𝓛 full_share R F h h' f f' b o p → Writes K 𝓛 Γ (lone F.mir) b p v (put 𝓛 n (‵ (part_at R full_share h' b o)) Γ)
   store-part t n R F h h' f f' b o p one v wt own e part = record {
     go = λ P k.
@@ -106,7 +106,7 @@ module _ {M : Type 1} {𝓤 : Ura M} {𝓛 : Logic 𝓤} {K : Type 0} {Γ : List
         (qed 𝓛 (‵ (part_at R full_share h b o) ∷ raw (⋆ 𝓛 (del 𝓛 n Γ)) ∷ []) {P = write 𝓤 H (lone F.mir) b p v P} (check ! wt $
         use1 𝓛 (‵ (part_at F full_share f b p) ⊛ raw (wand 𝓤 (sem 𝓛 (part_at F full_share f' b p)) (sem 𝓛 (part_at R full_share h' b o)))) part $ split ! $
         use1 𝓛 (‵ (froom (lone F.mir) b p)) (part_room 𝓛 F f b p) $ frame ! $
-        assume ! (‵ (fat full_share (lone F.mir) b p v)) $ use0 𝓛 (‵ (F.own f' (v ∷ []))) own $ move ! (1 ∷ 0 ∷ []) $
+        assume ! (‵ (fat full_share (lone F.mir) b p v)) $ use0 𝓛 (‵ (F.own_val f' (v ∷ []))) own $ move ! (1 ∷ 0 ∷ []) $
         use2 𝓛 (‵ (part_at F full_share f' b p)) (part_in 𝓛 F one full_share f' b p v) $
         use2 𝓛 (‵ (part_at R full_share h' b o)) (apply∗ 𝓤 (sem 𝓛 (part_at F full_share f' b p)) (sem 𝓛 (part_at R full_share h' b o))) $
         by ! (via 𝓤 (⋆ 𝓛 (put 𝓛 n (‵ (part_at R full_share h' b o)) Γ)) (fill 𝓛 n (‵ (part_at R full_share h' b o)) Γ) k)));
@@ -137,7 +137,7 @@ module _ {M : Type 1} {𝓤 : Ura M} {𝓛 : Logic 𝓤} {K : Type 0} {Γ : List
   answers t Kf r w l e = step (λ s. sets t r w $ returns_within t Kf e l $ s)
 
   -- a call of a function by its contract, where the result's type tells its machine value: afterwards there are what the function ensures, the tokens, and what is said of last values
-  pub calls-fn : K → {C : Calls 𝓤 H} {Λ : Loops 𝓤 H} {E : Env 𝓤 H} {f : Name} {xs : List Operand} {d : Place} {rest : Body} {q : Post 𝓤 H} → FmC 𝓤 H 𝓛.laws C → (S : Ended) (c : Clauses 𝓤 S)
+  pub calls-fn : K → {C : Calls 𝓤 H} {Λ : Loops 𝓤 H} {E : Env 𝓤 H} {f : Callee} {xs : List Operand} {d : Place} {rest : Body} {q : Post 𝓤 H} → FmC 𝓤 H 𝓛.laws C → (S : Ended) (c : Clauses 𝓤 S)
       → Triple 𝓤 (C f) (triple_of 𝓛 S.signature (closing 𝓛 S c)) → (y : (triple_of 𝓛 S.signature (closing 𝓛 S c)).Ghost)
       → (val : Res S.signature y.0.0 → Val) → Tells (type_at S.signature.result y.0.0) (Is (type_at S.signature.result y.0.0)) (λ r. val r ∷ [])
       → Opds K 𝓛 (raw ((triple_of 𝓛 S.signature (closing 𝓛 S c)).pre y) ∷ Γ) E xs (passed 𝓛 S.signature y.0)

@@ -6,9 +6,9 @@ use mathlib.Core.Path.{◌≡◌, refl, sym, subst}
 use Prim.Native.Nat.{ℕ}
 use mathlib.Core.List.{List, [], ◌∷◌}
 use seplogic.Ra.Ura.{Ura}
-use seplogic.Ra.TreeShare.{full_share}
+use base.Fraction.{full_share}
 use lib.Dec.{T}
-use mir.Syntax.{Name, Place, place, copy, rv_opd, Body, seq, assign, call}
+use mir.Syntax.{Callee, Place, place, copy, rv_opd, Body, seq, assign, call}
 use mir.Val.{Val, WT, has_ty}
 use base.Fml.{fat, froom}
 use prog.Wp.{Heap, Env, spot_of, Calls, Loops, next}
@@ -37,7 +37,7 @@ module _ {M : Type 1} {𝓤 : Ura M} {𝓛 : Logic 𝓤} {K : Type 0} where
   -- local i is what g makes
   open 𝓛 use {H}
 
-  makes-local : K → {C : Calls 𝓤 H} {Λ : Loops 𝓤 H} {E : Env 𝓤 H} {Γ : List (Item 𝓤)} {Qt : Post 𝓤 H} {rest : Body} {g : Name} {i : ℕ} → FmC 𝓤 H 𝓛.laws C → (Q : RattleType) (D : Data Q) (X : Q.Denot) → Triple 𝓤 (C g) (Made Q 𝓛 X)
+  makes-local : K → {C : Calls 𝓤 H} {Λ : Loops 𝓤 H} {E : Env 𝓤 H} {Γ : List (Item 𝓤)} {Qt : Post 𝓤 H} {rest : Body} {g : Callee} {i : ℕ} → FmC 𝓤 H 𝓛.laws C → (Q : RattleType) (D : Data Q) (X : Q.Denot) → Triple 𝓤 (C g) (Made Q 𝓛 X)
       → ((v : Val) → T (has_ty (lone Q.mir) v) × WT v → T (has_ty (spot_of 𝓤 H E i).0 v) × WT v)
       → (Is Q X (D.val X ∷ []) → Seq K 𝓛 (set 𝓤 H E i (D.val X) ∷ Γ) (runs C Λ E rest Qt)) → Seq K 𝓛 (free 𝓤 H E i ∷ Γ) (runs C Λ E (seq (call g [] (place i [])) rest) Qt)
   makes-local t {C} {Λ} {E} {Γ} {Qt} {rest} {i = i} fm Q D X known room k =
@@ -46,7 +46,7 @@ module _ {M : Type 1} {𝓤 : Ura M} {𝓛 : Logic 𝓤} {K : Type 0} where
       subst (λ (y : Q.Denot). Is Q y (D.val y ∷ []) → Seq K 𝓛 (set 𝓤 H E i (D.val y) ∷ Γ) (runs C Λ E rest Qt)) (sym e) k is))
 
   -- R is the whole, h before; p is where its part lies
-  pub renews : K → {C : Calls 𝓤 H} {Λ : Loops 𝓤 H} {E : Env 𝓤 H} {Γ : List (Item 𝓤)} {Qt : Post 𝓤 H} {rest : Body} {g : Name} {pl : Place} {here : Item 𝓤} {i : ℕ} → FmC 𝓤 H 𝓛.laws C → (Q : RattleType) (D : Data Q) (X : Q.Denot) → Triple 𝓤 (C g) (Made Q 𝓛 X)
+  pub renews : K → {C : Calls 𝓤 H} {Λ : Loops 𝓤 H} {E : Env 𝓤 H} {Γ : List (Item 𝓤)} {Qt : Post 𝓤 H} {rest : Body} {g : Callee} {pl : Place} {here : Item 𝓤} {i : ℕ} → FmC 𝓤 H 𝓛.laws C → (Q : RattleType) (D : Data Q) (X : Q.Denot) → Triple 𝓤 (C g) (Made Q 𝓛 X)
       → (R : RattleType) (h h' : R.Denot) (f : Q.Denot) (b o p : ℕ) → Within 𝓛 full_share R Q h h' f X b o p → ((v : Val) → T (has_ty (lone Q.mir) v) × WT v → T (has_ty (spot_of 𝓤 H E i).0 v) × WT v)
       → ((v : Val) → Finds K 𝓛 (set 𝓤 H E i v ∷ here ∷ ‵ (part_at R full_share h b o) ∷ Γ) E pl (lone Q.mir, b, p))
       → Step K 𝓛 (free 𝓤 H E i ∷ here ∷ ‵ (part_at R full_share h' b o) ∷ Γ) (runs C Λ E rest Qt)
@@ -55,7 +55,7 @@ module _ {M : Type 1} {𝓤 : Ura M} {𝓛 : Logic 𝓤} {K : Type 0} where
       assigns t (of_opd t (var t 0 refl)) (find _) (store-part t 2 R Q h h' f X b o p D.one _ (D.typed 𝓛 X _ is) (D.makes 𝓛 X _ is) refl change) $ forget t 0 refl $ k))
 
   -- the same at the end of a block
-  pub renews-last : K → {C : Calls 𝓤 H} {Λ : Loops 𝓤 H} {E : Env 𝓤 H} {Γ : List (Item 𝓤)} {Qt : Post 𝓤 H} {g : Name} {pl : Place} {here : Item 𝓤} {i : ℕ} → FmC 𝓤 H 𝓛.laws C → (Q : RattleType) (D : Data Q) (X : Q.Denot) → Triple 𝓤 (C g) (Made Q 𝓛 X)
+  pub renews-last : K → {C : Calls 𝓤 H} {Λ : Loops 𝓤 H} {E : Env 𝓤 H} {Γ : List (Item 𝓤)} {Qt : Post 𝓤 H} {g : Callee} {pl : Place} {here : Item 𝓤} {i : ℕ} → FmC 𝓤 H 𝓛.laws C → (Q : RattleType) (D : Data Q) (X : Q.Denot) → Triple 𝓤 (C g) (Made Q 𝓛 X)
       → (R : RattleType) (h h' : R.Denot) (f : Q.Denot) (b o p : ℕ) → Within 𝓛 full_share R Q h h' f X b o p → ((v : Val) → T (has_ty (lone Q.mir) v) × WT v → T (has_ty (spot_of 𝓤 H E i).0 v) × WT v)
       → ((v : Val) → Finds K 𝓛 (set 𝓤 H E i v ∷ here ∷ ‵ (part_at R full_share h b o) ∷ Γ) E pl (lone Q.mir, b, p))
       → Step K 𝓛 (free 𝓤 H E i ∷ here ∷ ‵ (part_at R full_share h' b o) ∷ Γ) (prop (post 𝓤 H Qt next))

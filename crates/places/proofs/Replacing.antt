@@ -7,8 +7,8 @@ use Prim.Native.Nat.{ℕ, ◌+◌, ◌*◌, ◌≤◌, ◌<◌, ◌^◌}
 use mathlib.Core.List.{[], ◌∷◌, List}
 use lib.Dec.{T, eqb, lit<}
 use seplogic.Ra.Ura.{Ura}
-use seplogic.Ra.TreeShare.{full_share}
-use mir.Syntax.{Name, Body, named, erased, mut, w8, w32, w64, ty_int, ty_bool, ty_ptr, ty_ref, Opd as Operand, int, copy, rv_opd, place, deref, seq, assign, call, return, value_local, local, Fn}
+use base.Fraction.{full_share}
+use mir.Syntax.{Callee, Body, named, erased, mut, w8, w32, w64, ty_int, ty_bool, ty_ptr, ty_ref, Opd as Operand, int, copy, rv_opd, place, deref, seq, assign, call, return, value_local, local, Fn}
 use mir.Val.{Val, vint, vptr}
 use base.Fml.{GName, Lft, Share}
 use prog.Wp.{Env, Tables, WpFn}
@@ -38,11 +38,13 @@ abbrev used : List ℕ
 used = 4 ∷ 5 ∷ 6 ∷ 7 ∷ 8 ∷ 9 ∷ 3 ∷ 2 ∷ 1 ∷ 12 ∷ []
 
 -- k is the constant that is an element's width, and g the function that makes the new element
-module _ (S : Store) (k : Operand) (g : Name) where
+module _ (S : Store) (k : Operand) (g : Callee) where
   abbrev pub shape : Fn
   shape = record {
     lifetimes = 1;
     outlives = [];
+    ty_params = [];
+    givens = 0;
     params = 2;
     locals =
         local (ty_int w32) value_local

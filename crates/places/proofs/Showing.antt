@@ -5,7 +5,7 @@ use Prim.Native.Nat.{ℕ, ◌<◌, ◌^◌}
 use mathlib.Core.List.{[], ◌∷◌, List}
 use mathlib.Core.Option.{Option}
 use seplogic.Ra.Ura.{Ura}
-use seplogic.Ra.TreeShare.{full_share}
+use base.Fraction.{full_share}
 use mir.Syntax.{Ty, named, w32, w64, Fn}
 use mir.Val.{Val, vint, vptr}
 use base.Logic.{SProp, emp, via, fst∗}
@@ -86,7 +86,7 @@ module _ (R U : RattleType) where
         (walked 𝓛 ended stayed (said 𝓤 Φ) (WpFn 𝓤 H 𝓣.C 𝓣.Λ f) (λ κs. (mut_vals, (uint_vals w64, (mut_vals, tt)))) (λ κs. (mut_Tells (named 0) κs.0 R, (uint_Tells w64, (mut_Tells (named 1) κs.1.0 U, tt))))
         (λ κs qs bounds a _ are. via 𝓤 _ (fst∗ 𝓤 _ (emp 𝓤))
         (qed 𝓛 ((‵ (flft κs.0 qs.0) ⊛ (‵ (flft κs.1.0 qs.1.0) ⊛ ‵ ftrue))
-        ∷ ‵ (owns (MutRef (named 0) κs.0 R ∷ u64 ∷ MutRef (named 1) κs.1.0 U ∷ []) a (vptr a.0.ptr.0 a.0.ptr.1 ∷ [], (vint w64 a.1.0 ∷ [], (vptr a.1.1.0.ptr.0 a.1.1.0.ptr.1 ∷ [], tt)))) ∷ []) ∵
+        ∷ ‵ (owns (MutRef (named 0) κs.0 R ∷ u64 ∷ MutRef (named 1) κs.1.0 U ∷ []) a (vptr a.0.ref_ptr.0 a.0.ref_ptr.1 ∷ [], (vint w64 a.1.0 ∷ [], (vptr a.1.1.0.ref_ptr.0 a.1.1.0.ref_ptr.1 ∷ [], tt)))) ∷ []) ∵
         split ! $ move ! (1 ∷ []) $ split ! $ move ! (3 ∷ []) $ fsplit ! $ fsplit3 ! $ drop ! $ move ! (2 ∷ []) $ fsplit ! $ drop ! $ fsplit ! $ fsplit3 ! $ drop ! $
         -- [obs and borrow of the record; ..; obs and borrow of the store; the record's token; ..; the store's]
         keep ! (3 ∷ 4 ∷ 7 ∷ 0 ∷ 1 ∷ 5 ∷ []) $

@@ -11,8 +11,8 @@ use mathlib.Core.List.{[], ◌∷◌, List}
 use lib.Dec.{ltb→lt, nltb→le, lit<}
 use lib.WfN.{lt-wf_rel}
 use seplogic.Ra.Ura.{Ura}
-use seplogic.Ra.TreeShare.{full_share}
-use mir.Syntax.{Name, Body, named, mut, w64, ty_unit, ty_int, ty_bool, ty_ptr, ty_ref, unsigned, Opd as Operand, int, opd_unit, copy, rv_opd, op2, addr_of, add, lt, mul, offset, place, deref, field, seq, skip, cond, block, loop, exit, assign, call, return, value_local, local, Fn}
+use base.Fraction.{full_share}
+use mir.Syntax.{Callee, Body, named, mut, w64, ty_unit, ty_int, ty_bool, ty_ptr, ty_ref, unsigned, Opd as Operand, int, opd_unit, copy, rv_opd, op2, addr_of, add, lt, mul, offset, place, deref, field, seq, skip, cond, block, loop, exit, assign, call, return, value_local, local, Fn}
 use mir.Val.{Val, vunit, vint, vptr}
 use base.Logic.{SProp}
 use base.Fml.{GName, Lft, Share}
@@ -38,7 +38,7 @@ use Rattle.places.proofs.Entry as entry
 use Rattle.places.proofs.Numbered.{maker, makes, Made, asks}
 use Rattle.places.proofs.Store.{Store, changes}
 
-module _ (S : Store) (k : Operand) (g : Name) where
+module _ (S : Store) (k : Operand) (g : Callee) where
   abbrev more : Body
   more =
       seq (call g [] (place 4 []))
@@ -58,6 +58,8 @@ module _ (S : Store) (k : Operand) (g : Name) where
   shape = record {
     lifetimes = 1;
     outlives = [];
+    ty_params = [];
+    givens = 0;
     params = 1;
     locals =
         local ty_unit value_local

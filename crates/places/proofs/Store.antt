@@ -20,7 +20,8 @@ use types.Logic.{Logic, sem}
 use types.Kit.{Item}
 use types.Run.{Walks, fld}
 use denote.RattleType.{RattleType}
-use denote.Laws.{Is, Tells, Copy}
+use denote.Laws.{Is, Tells}
+use denote.Copied.{Copied}
 use denote.Memory.{lone}
 use denote.Builtin.{u8}
 use denote.Struct.Declared.{Declared, shape, row, fields}
@@ -34,7 +35,7 @@ pub record Data (P : RattleType) : Type 2 where
   pub val : P.Denot → Val
   pub tells : Tells P (Is P) (λ x. val x ∷ [])
   pub typed : {M : Type 1} {𝓤 : Ura M} (𝓛 : Logic 𝓤) (x : P.Denot) (v : Val) → Is P x (v ∷ []) → T (has_ty (lone P.mir) v) × WT v
-  pub makes : {M : Type 1} {𝓤 : Ura M} (𝓛 : Logic 𝓤) (x : P.Denot) (v : Val) → Is P x (v ∷ []) → ent 𝓤 (emp 𝓤) (sem 𝓛 (P.own x (v ∷ [])))
+  pub makes : {M : Type 1} {𝓤 : Ura M} (𝓛 : Logic 𝓤) (x : P.Denot) (v : Val) → Is P x (v ∷ []) → ent 𝓤 (emp 𝓤) (sem 𝓛 (P.own_val x (v ∷ [])))
 
 -- a declared struct of plain data is such
 abbrev pub data_of : (N : Declared) (L : LL.Laws N) → Plains (fields N) → Data (row N)
@@ -108,7 +109,7 @@ pub record Store : Type 3 where
   pub get : R.Denot → ℕ → P.Denot
   pub put : R.Denot → ℕ → P.Denot → R.Denot
   pub all : Data R
-  pub copy : {M : Type 1} {𝓤 : Ura M} (𝓛 : Logic 𝓤) → Copy 𝓛 R
+  pub copy : {M : Type 1} {𝓤 : Ura M} (𝓛 : Logic 𝓤) → Copied 𝓛 R
   pub part : Data P
   pub mark : Seen P u8
   pub array : field_of (lone R.mir) 0 ≡ some (elements, 0)

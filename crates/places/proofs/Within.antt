@@ -1,5 +1,5 @@
 -- A part of a value in memory. `Within q R F h h' f f' b o p`: of h at (b, o), the part f at (b, p) can be taken out, and with f' put there the whole is h'.
---     field        a field of a declared struct is the kit's `borrow.Struct.Behind`: `look_at` where it is left, `put-at` where it is changed
+--     field        a field of a declared struct is the kit's `borrow.Struct.Behind`: `look_at` where it is left, `put_at_lem` where it is changed
 --     element      an element of an array, as it was set last
 --     deeper       a part of a part
 -- Assumes `Logic`.
