@@ -1,6 +1,5 @@
 -- Runs of calls on a machine: S is its state, C are its calls, R is what they are answered. A machine is what one call leaves and answers.
-use Rattle.std.specs.Prelude.{Bool, List, [], ◌∷◌}
-use Rattle.bits.specs.Choice.{if◌then◌else◌}
+use Rattle.std.specs.Prelude.{Bool, List, [], ◌∷◌, if◌then◌else◌}
 
 abbrev pub Machine : Type 0 → Type 0 → Type 0 → Type 0
 Machine S C R = S → C → S × R
