@@ -3,7 +3,7 @@
 use mathlib.Core.Path.{◌≡◌, refl, sym, ap, ◌∙◌}
 use mathlib.Core.Bool.{Bool, true, false}
 use lib.Dec.{eqb}
-use mir.Syntax.{Name}
+use mir.Syntax.{Callee}
 use denote.RattleType.{RattleType}
 use denote.Builtin.{u8}
 use denote.Struct.Declared.{Declared, row, fields}
@@ -11,7 +11,7 @@ use denote.Struct.Struct.{Plains}
 use denote.Struct.Laws.{Laws}
 use Rattle.places.proofs.Store.{Seen, Part, data_of, part_in, seen-in}
 use Rattle.places.proofs.Picturing.{Lapse, chosen, lapsed}
-use Rattle.bits.specs.Choice.{if◌then◌else◌}
+use Rattle.std.specs.Prelude.{if◌then◌else◌}
 use Rattle.answers.specs.Listed.{zeros}
 use Rattle.held.specs.Lasting.{Lasting, frame_packing, orientation, equirectangular, rotation, region_wise, kind_of, persistence_of, value_of}
 use Rattle.held.specs.Held.{none_of, kept_of, held_of, kept, replaced}
@@ -43,7 +43,7 @@ use Rattle.in_place.proofs.Parts.{frame-packing-on, frame-packing-value, frame-p
 use Rattle.in_place.proofs.Eight.{held-frame-packing, held-orientation, held-equirectangular, held-rotation, held-region-wise}
 
 -- a record N with its mark, in O: what lies where, and what makes the zeros
-abbrev lapse : (N : Declared) (L : Laws N) → Plains (fields N) → (O : RattleType) → Part slot.the_row O → Part O u8 → Part O (row N) → Seen O u8 → Name → N.D → Lapse slot.the_row
+abbrev lapse : (N : Declared) (L : Laws N) → Plains (fields N) → (O : RattleType) → Part slot.the_row O → Part O u8 → Part O (row N) → Seen O u8 → Callee → N.D → Lapse slot.the_row
 lapse N L plain O held on value stays z zero =
     record { Q = row N; data' = data_of N L plain; on = part_in held on; value = part_in held value; stays = seen-in held.at stays; z = z; Z = zero }
 
