@@ -19,7 +19,7 @@ use Rattle.answers.proofs.KindLaws.{one-kind}
 use Rattle.reader.proofs.Calls.{to-payload}
 use Rattle.reader.proofs.Demand2.{number-0, number-20, answer-0, answer-20}
 use Rattle.reader.proofs.Local.{local}
-use Rattle.bits.specs.Choice.{if◌then◌else◌}
+use Rattle.std.specs.Prelude.{if◌then◌else◌}
 use Rattle.slots.specs.Slots.{is_open, holding, when_open}
 use Rattle.held.specs.declared.Held.{Held}
 use Rattle.slots.specs.declared.Slot.{Slot}
