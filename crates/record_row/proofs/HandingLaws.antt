@@ -5,7 +5,7 @@ use mathlib.Core.Path.{◌≡◌, refl, sym, ap, ◌∙◌}
 use mathlib.Core.List.{List, [], ◌∷◌}
 use borrow.Author.Tests.{le-leb, lt-leb}
 use denote.Enum.Declared.{tag_of}
-use types.Run.{OneOf, miss}
+use types.Run.{OneOf, hit, miss}
 use lib.ListN.{length}
 use lib.Seq.{sets}
 use Rattle.bits.specs.Refusals.{refusal_number}
@@ -73,6 +73,14 @@ module _ (o : Outcome) (n : ℕ) (xs l : List ℕ) (number : n ≡ outcome_numbe
 
   pub by-given : {ys : List ℕ} {r : Left ℕ} → OneOf given (tag_of the_type o) → ys ≡ xs → r ≡ handed_over n ys l → r ≡ wrote_by o xs l
   by-given h f e = e ∙ ap (λ (zs : List ℕ). handed_over n zs l) f ∙ ap (λ (k : ℕ). handed_over k xs l) number ∙ wrote o h
+
+  unrefused : (x : Outcome) → ((why : Refusal) → x ≡ Refused why → ⊥) → OneOf given (tag_of the_type x)
+  unrefused Taken h = hit given 0 tt
+  unrefused SetAside h = hit given 1 tt
+  unrefused (Refused why) h = absurd (h why refl)
+
+  pub by-unrefused : {ys : List ℕ} {r : Left ℕ} → ((why : Refusal) → o ≡ Refused why → ⊥) → ys ≡ xs → r ≡ handed_over n ys l → r ≡ wrote_by o xs l
+  by-unrefused h f e = by-given (unrefused o h) f e
 
   pub by-refused : {why : Refusal} → o ≡ Refused why → left n l ≡ wrote_by o xs l
   unfolding wrote_by

@@ -1,6 +1,5 @@
 -- The fields of a record as numbers, one layout a kind.
-use Rattle.std.specs.Prelude.{ℕ, ◌+◌, ◌^◌, Bool, ◌&&◌, List, [], ◌∷◌, ◌++◌, ltb}
-use Rattle.bits.specs.Choice.{if◌then◌else◌}
+use Rattle.std.specs.Prelude.{ℕ, ◌+◌, ◌^◌, Bool, ◌&&◌, List, [], ◌∷◌, ◌++◌, ltb, if◌then◌else◌}
 use Rattle.bits.specs.Signed.{twos_of}
 use Rattle.kind_frame_packing.specs.declared.FramePacking.{FramePacking}
 use Rattle.kind_orientation.specs.declared.Orientation.{Orientation}

@@ -1,6 +1,5 @@
 -- The row of numbers that stands for an answer: the extension count, then the record's fields; and what a call leaves of a lent row.
-use Rattle.std.specs.Prelude.{ℕ, List, ◌∷◌, leb, length}
-use Rattle.bits.specs.Choice.{if◌then◌else◌}
+use Rattle.std.specs.Prelude.{ℕ, List, ◌∷◌, leb, length, if◌then◌else◌}
 use Rattle.bits.specs.Refusals as refusals
 use Rattle.lent.specs.Lent.{Left, left, over}
 use Rattle.answers.specs.Answer.{outcome_number}

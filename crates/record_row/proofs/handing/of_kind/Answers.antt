@@ -1,0 +1,28 @@
+-- of three kinds their own record is handed out, and of any other what the message has
+use Rattle.std.proofs.Common.{◌∙◌, ap}
+use Rattle.answers.specs.Listed.{nothing, reading_of}
+use Rattle.answers.specs.Answer.{answer_of}
+use Rattle.answers.specs.declared.Brief.{Brief}
+use Rattle.answers.specs.declared.kind.Kind.TheVariants.{RegionWise, Depth, Unregistered}
+use Rattle.messages.proofs.Alone.{alone, unnamed}
+use Rattle.record_row.proofs.HandingLaws.{region-wise-wrote, depth-wrote, unregistered-wrote, by_answer}
+use Rattle.record_row.proofs.handing.of_kind.Goals as goal
+
+pub returns-in-RegionWise : goal.returns-in-RegionWise
+returns-in-RegionWise c =
+    rw c.in-RegionWise.is (region-wise-wrote _ (reading_of RegionWise c.args.s.now) c.region_wise.ensures c.hand_region_wise.ensures)
+
+pub returns-in-Depth : goal.returns-in-Depth
+returns-in-Depth c =
+    rw c.in-Depth.is (depth-wrote _ (reading_of Depth c.args.s.now) c.depth.ensures c.hand_depth.ensures)
+
+pub returns-in-Unregistered : goal.returns-in-Unregistered
+returns-in-Unregistered c =
+    rw c.in-Unregistered.is (unregistered-wrote _ (reading_of Unregistered c.args.s.now) c.unregistered.ensures c.hand_unregistered.ensures)
+
+pub returns-in_default : goal.returns-in_default
+returns-in_default c =
+    let none = unnamed c.args.kind c.in_default.not-RegionWise c.in_default.not-Depth c.in_default.not-Unregistered in
+    by_answer _
+    (ap (λ (b : Brief). answer_of b nothing) c.brief_of.ensures ∙ alone c.args.kind none (reading_of c.args.kind c.args.s.now))
+    c.hand_brief.ensures
