@@ -4,5 +4,6 @@ pub mod FeedClaims
 pub mod Determined
 pub mod Tied
 pub mod SeenLaws
+pub mod InPlace
 pub mod Parts
 pub mod Examples

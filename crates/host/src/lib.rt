@@ -1,4 +1,6 @@
 // What a C player calls to read a payload. A slice is a pointer and then a length; host/bruskelde.h has the C declarations.
+#![tactic(auto)]
+
 pub mod slot;
 
 ghost use Rattle.std.specs.Prelude.{◌≡◌};
@@ -30,7 +32,7 @@ pub extern "C" fn bruskelde_fields(kind: u64, size: u64, bytes: &[u8], row: &mut
 
 // A part of the lent bytes, by its first byte and how many there are.
 #[repr(C)]
-#[derive(Drop)]
+#[derive(Clone, Copy)]
 pub struct Part {
     pub offset: u64,
     pub length: u64,

@@ -202,7 +202,7 @@ pub extern "C" fn bruskelde_picture(slots: &mut Slots, slot: u64, shown: &mut He
 
 // The number, and how many rows were written.
 #[repr(C)]
-#[derive(Drop)]
+#[derive(Clone, Copy)]
 pub struct Tabled {
     pub number: u32,
     pub rows: u32,
