@@ -11,7 +11,7 @@ use borrow.Author.Tests.{eq-eqb, ne_eqb, le-leb, lt-leb}
 use lib.Dec.{leb}
 use lib.ListN.{length, length-set, drop, get_or, set, drop_of_length-le}
 use lib.Seq.{drop-cons, sets, set_out}
-use Rattle.bits.specs.Choice.{if◌then◌else◌}
+use Rattle.std.specs.Prelude.{if◌then◌else◌}
 use Rattle.words.specs.declared.hex.Hex.{Hex}
 use Rattle.words.specs.declared.hex.Hex.TheVariants.{Bytes, Long}
 use Rattle.words.specs.declared.hex.Paired.{Paired}

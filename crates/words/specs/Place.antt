@@ -1,7 +1,14 @@
 -- Places in a text, and what a line says.
-use Rattle.std.specs.Prelude.{ℕ, suc, ◌-◌, List, [], ◌∷◌, reverse, eqb, length, take, drop}
-use Rattle.bits.specs.Choice.{if◌then◌else◌}
-use Rattle.bytes.specs.Bytes.{index_of}
+use Rattle.std.specs.Prelude.{ℕ, suc, ◌-◌, List, [], ◌∷◌, reverse, eqb, length, take, drop, if◌then◌else◌}
+
+-- where b first stands; the length where it does not
+unfoldable pub index_of : ℕ → List ℕ → ℕ
+index_of b [] = 0
+index_of b (x ∷ rest) = if eqb x b then 0 else suc (index_of b rest)
+
+-- what stands from place i on, before place n
+abbrev pub slice : ℕ → ℕ → List ℕ → List ℕ
+slice i n l = drop i (take n l)
 
 -- how often b stands at the front, before anything else
 unfoldable pub run : ℕ → List ℕ → ℕ

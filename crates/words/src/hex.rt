@@ -16,7 +16,7 @@ fn digit(b: u8) -> u8
     }
 }
 
-#[derive(Drop)]
+#[derive(Clone, Copy)]
 pub enum Hex {
     // How many bytes.
     Bytes(usize),
@@ -28,7 +28,7 @@ pub enum Hex {
     Long,
 }
 
-#[derive(Drop)]
+#[derive(Clone, Copy)]
 enum Paired {
     Byte(u8),
     Wrong(Hex),

@@ -2,7 +2,7 @@
 ghost use Rattle.std.specs.Prelude.{◌≡◌};
 ghost use Rattle.words.specs.Number.{with_digit, number_of};
 
-#[derive(Drop)]
+#[derive(Clone, Copy)]
 pub enum Spelled {
     Value(u64),
     // There is nothing.

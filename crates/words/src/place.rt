@@ -1,7 +1,6 @@
 // Places in a text.
 ghost use Rattle.std.specs.Prelude.{◌≡◌, ◌+◌, ◌≤◌, length, drop};
-ghost use Rattle.bytes.specs.Bytes.{index_of, slice};
-ghost use Rattle.words.specs.Place.{run, trimmed_of, content_of};
+ghost use Rattle.words.specs.Place.{index_of, slice, run, trimmed_of, content_of};
 
 // Where b first stands, from a place on; the text's length where it does not. Four characters a turn: a replay
 // at the desk takes a tenth less time by it.
@@ -26,7 +25,23 @@ pub fn find(s: &[u8], from: usize, b: u8) -> usize
         }
         i += 4;
     }
-    bytes::scan::find(s, i, s.len(), b)
+    scan(s, i, b)
+}
+
+// The same, a character a turn.
+fn scan(s: &[u8], from: usize, b: u8) -> usize
+    requires { from ≤ length s.now }
+    ensures value { result ≡ from + index_of b (slice from (length s.now) s.now) }
+    ensures bounds { (from ≤ result) × (result ≤ length s.now) }
+{
+    let mut at = from;
+    while at < s.len() {
+        if s[at] == b {
+            return at;
+        }
+        at += 1;
+    }
+    at
 }
 
 // Where something else than b first stands.

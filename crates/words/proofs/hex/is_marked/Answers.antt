@@ -1,18 +1,11 @@
--- `words::hex::is_marked` meets its contract: what stands past i starts with three characters, or is too short.
--- Assumes nothing.
-use Prim.Native.Nat.{ℕ, ◌+◌, ◌-◌, ◌<◌, ◌≤◌}
-use mathlib.Core.Path.{◌≡◌, refl, ap, ◌∙◌}
+-- what stands past i starts with three characters, or is too short
 use mathlib.Core.Bool.{Bool, true, false, not}
-use mathlib.Core.List.{List, [], ◌∷◌}
-use native.Mathlib.Omega.{arith}
-use borrow.Author.Rules.{rules}
 use lib.Dec.{eqb}
-use lib.ListN.{length, length-drop, drop, get_or}
-use Rattle.bits.specs.Choice.{if◌then◌else◌}
+use Rattle.std.proofs.Common.{ℕ, ◌≡◌, ◌+◌, ◌-◌, ◌<◌, ◌≤◌, ◌∙◌, List, [], ◌∷◌, length, length-drop, drop, get_or, refl, ap, arith}
+use Rattle.std.specs.Prelude.{if◌then◌else◌}
 use Rattle.words.specs.Hex.{zero_x, marked}
 use Rattle.words.proofs.Spellings.{cons-at}
-use Rattle.words.proofs.hex.is_marked.Statement.{statement}
-use Rattle.words.proofs.hex.is_marked.Tie as tie
+use Rattle.words.proofs.hex.is_marked.Goals as goal
 
 neither : (t : Bool) → false ≡ (if t then false else false)
 neither true = refl
@@ -46,36 +39,11 @@ module _ (s : List ℕ) (i : ℕ) where
     unfolding marked
     no-mark y = rw (apart, ← e, y)
 
-returns : tie.Need-returns
-returns c =
-    let x = c.before.before.args in
-    too_short x.s.now x.i c.if1.true
+pub returns-then-s-i-lt3 : goal.returns-then-s-i-lt3
+returns-then-s-i-lt3 c = too_short c.args.s.now c.args.i (omega arith)
 
-returns-2 : tie.Need-returns-2
-returns-2 c =
-    let z = c.before.before in
-    let three = z.before.before.before in
-    let x = three.before.before.args in
-    followed x.s.now x.i three.if1.false _ z.zero-x.ensures c.before.if2.true
+pub returns-then-zero_x : goal.returns-then-zero_x
+returns-then-zero_x c = followed c.args.s.now c.args.i (omega arith) _ c.zero_x.ensures c.if-zero_x.true
 
-returns-3 : tie.Need-returns-3
-returns-3 c =
-    let z = c.before in
-    let three = z.before.before.before in
-    let x = three.before.before.args in
-    no-mark x.s.now x.i three.if1.false _ z.zero-x.ensures c.if2.false
-
-pub is-marked-spec : {M : Type 1} → statement M
-is-marked-spec =
-    tie.close
-    (tie.spec
-    (λ c. search rules)
-    returns
-    (λ c. search rules)
-    (λ c. search rules)
-    (λ c. search rules)
-    (λ c κs. search rules)
-    (λ c. search rules)
-    (λ c. search rules)
-    returns-2
-    returns-3)
+pub returns : goal.returns
+returns c = no-mark c.args.s.now c.args.i (omega arith) _ c.zero_x.ensures c.if-zero_x.false
