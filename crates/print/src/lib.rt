@@ -1,36 +1,32 @@
-// Words, numbers and bytes, for standard output; and a mark for whoever runs the program.
+// Words, numbers and bytes, for standard output; and marks for the program's exit status.
+#![tactic(auto)]
+
 mod buffer;
 
-ghost use Rattle.std.specs.Prelude.{◌≤◌};
+ghost use Rattle.std.specs.Prelude.{◌<◌, ◌≤◌};
 
-pub use buffer::{ROOM, byte, flush, text};
+pub use buffer::{Fault, Out, byte, flush, mark, text};
+use itoa::Buffer;
 use words::place::find;
-
-// The descriptor on which a program's runner learns of wrong lines and refusals: a program has no exit status of its own.
-const MARKS: i32 = 3;
-
-// A mark, for which nobody need listen.
-pub fn mark(b: u8) {
-    io::write_all(MARKS, &[b]);
-}
 
 // How many digits a number is padded to.
 const WIDTH: usize = 15;
 
 // A number, with zeros in front where it has fewer digits than are asked for.
-fn digits(out: &mut [u8; ROOM], n: u64, least: usize)
+fn digits(out: &mut Out, n: u64, least: usize)
     requires { least ≤ 15 }
 {
     let zeros = [b'0'; WIDTH];
-    let mut digits = [0u8; 20];
-    let k = io::decimal(n, &mut digits);
+    let mut buffer = Buffer::new();
+    let digits = buffer.format(n).as_bytes();
+    let k = digits.len();
     if k < least {
         text(out, &zeros[k..least]);
     }
-    text(out, &digits[..k]);
+    text(out, digits);
 }
 
-pub fn number(out: &mut [u8; ROOM], n: u64) {
+pub fn number(out: &mut Out, n: u64) {
     if n < 10 {
         byte(out, b'0' + n as u8);
         return;
@@ -39,12 +35,12 @@ pub fn number(out: &mut [u8; ROOM], n: u64) {
 }
 
 // A number with zeros in front.
-pub fn padded(out: &mut [u8; ROOM], n: u64) {
+pub fn padded(out: &mut Out, n: u64) {
     digits(out, n, WIDTH);
 }
 
 // A text, with a number at its '#' if it has one.
-pub fn numbered(out: &mut [u8; ROOM], s: &[u8], n: u64) {
+pub fn numbered(out: &mut Out, s: &[u8], n: u64) {
     let start = 0;
     let hash = find(s, start, b'#');
     text(out, &s[start..hash]);
@@ -57,15 +53,24 @@ pub fn numbered(out: &mut [u8; ROOM], s: &[u8], n: u64) {
     }
 }
 
-// A number in hex, with zeros in front.
-fn hex(out: &mut [u8; ROOM], n: u64, width: usize) {
-    let mut digits = [0u8; 16];
-    let k = io::hex(n, width, &mut digits);
-    text(out, &digits[..k]);
+fn hex_digit(d: u64) -> u8
+    requires { d < 16 }
+{
+    let d = d as u8;
+    if d < 10 { b'0' + d } else { b'a' - 10 + d }
+}
+
+// The last digits of a number in hex, zeros in front among them: it has no more than sixteen.
+fn hex(out: &mut Out, n: u64, width: usize) {
+    let mut left = width.min(16);
+    while 0 < left {
+        left -= 1;
+        byte(out, hex_digit((n >> (4 * left)) % 16));
+    }
 }
 
 // A float's 64 bits.
-pub fn bits(out: &mut [u8; ROOM], n: u64) {
+pub fn bits(out: &mut Out, n: u64) {
     hex(out, n, 16);
 }
 
@@ -74,7 +79,7 @@ fn wide(b: u8) -> u64 {
 }
 
 // Bytes in hex, in brackets, so that none at all can be seen.
-pub fn bytes(out: &mut [u8; ROOM], s: &[u8]) {
+pub fn bytes(out: &mut Out, s: &[u8]) {
     byte(out, b'[');
     let mut i = 0;
     while i < s.len() {
@@ -96,7 +101,7 @@ fn glyph(b: u8) -> u8 {
 }
 
 // Bytes as text.
-pub fn printable(out: &mut [u8; ROOM], s: &[u8]) {
+pub fn printable(out: &mut Out, s: &[u8]) {
     let mut i = 0;
     while i < s.len() {
         byte(out, glyph(s[i]));
@@ -105,7 +110,7 @@ pub fn printable(out: &mut [u8; ROOM], s: &[u8]) {
 }
 
 // The nth of the pieces between bars, counted from 0, and the last one for each n past them.
-pub fn piece(out: &mut [u8; ROOM], s: &[u8], n: u64) {
+pub fn piece(out: &mut Out, s: &[u8], n: u64) {
     let mut at = 0;
     let mut left = n;
     let mut end = find(s, 0, b'|');
