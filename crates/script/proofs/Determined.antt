@@ -21,7 +21,7 @@ use Rattle.script.proofs.input.Input.next.Reads as next-reads
 pub said-determined : DeterminesPart 1 said-kinds.ps said-kinds.r (λ κs x. x.now) said-reads.Post
 said-determined κs a x y s t p q = p ∙ sym q
 
-pub call-determined : DeterminesAll 2 call-kinds.ps call-kinds.r (λ κs s. s.1.1.0.now) call-reads.Post
+pub call-determined : DeterminesAll 3 call-kinds.ps call-kinds.r (λ κs s. s.1.1.1.0.now) call-reads.Post
 call-determined κs a x y s t p q = same_left (p ∙ sym q)
 
 pub start-determined : Determines 0 start-kinds.ps start-kinds.r start-reads.Post
@@ -34,12 +34,12 @@ same_byte i chunk line n m l = rw l
 
 module _ (κs : Lfts 2) (a : Dens κs next-kinds.ps) (x y : (res_t next-kinds.r κs).Denot) (s t : AtExit (ended_of 2 next-kinds.ps next-kinds.r) κs)
     (p : next-reads.Post κs a x s) (q : next-reads.Post κs a y t) where
-  pub byte-determined : byte_left (onward_of a.0) ≡ true → (x ≡ y) × (s.1.1.0.now ≡ t.1.1.0.now) × (s.1.0.now ≡ t.1.0.now)
+  pub byte-determined : byte_left (onward_of a.0) ≡ true → (x ≡ y) × (s.1.1.1.0.now ≡ t.1.1.1.0.now) × (s.1.1.0.now ≡ t.1.1.0.now)
   byte-determined l =
       let e = p.0 ∙ same_byte _ _ _ _ _ l ∙ sym q.0 in
       (ap (λ (o : Step). o.input) e, ap (λ (o : Step). o.line) e, p.1.0 l ∙ sym (q.1.0 l))
 
-  pub chunk-determined : x.end ≡ y.end → (x ≡ y) × (s.1.1.0.now ≡ t.1.1.0.now)
+  pub chunk-determined : x.end ≡ y.end → (x ≡ y) × (s.1.1.1.0.now ≡ t.1.1.1.0.now)
   chunk-determined n =
       let e = p.0 ∙ ap (next_of _ _ _) n ∙ sym q.0 in
       (ap (λ (o : Step). o.input) e, ap (λ (o : Step). o.line) e)

@@ -1,7 +1,7 @@
 -- A list of words with bars, word by word.
 -- Assumes nothing.
 use Rattle.std.proofs.Common.{◌≡◌, ℕ, suc, ◌+◌, ◌-◌, ◌<◌, ◌≤◌, Bool, true, false, eqb, List, [], ◌∷◌, length, take, drop, refl, ap, ◌∙◌, arith, drop-drop}
-use Rattle.bytes.specs.Bytes.{index_of, index_after}
+use Rattle.words.specs.Place.{index_of}
 use Rattle.script.specs.Words.{alike}
 use Rattle.script.specs.Names.{longer, words_of, place_in}
 
@@ -16,11 +16,11 @@ module _ (c : ℕ) (rest : List ℕ) where
   letter e = rw e
 
   at-bar : eqb c 124 ≡ true → index_of 124 (c ∷ rest) ≡ 0
-  unfolding index_of index_after
+  unfolding index_of
   at-bar e = rw e
 
   past-letter : eqb c 124 ≡ false → index_of 124 (c ∷ rest) ≡ suc (index_of 124 rest)
-  unfolding index_of index_after
+  unfolding index_of
   past-letter e = rw e
 
 -- the first word goes up to the first bar

@@ -1,7 +1,7 @@
 -- The calls by their names, and by the places of these in the list of names.
 -- Assumes nothing.
 use Rattle.std.proofs.Common.{◌≡◌, ℕ, suc, ◌<◌, ◌≤◌, Bool, true, false, eqb, ltb, List, refl, arith, le-ltb, lt-ltb, ne_eqb}
-use Rattle.bits.specs.Choice.{if◌then◌else◌}
+use Rattle.std.specs.Prelude.{if◌then◌else◌}
 use Rattle.script.specs.Words.{alike, last_of}
 use Rattle.script.specs.Names.{place_in, names}
 use Rattle.script.specs.Names.{open-name, close-name, sequence-name, picture-name, table-name, feed-name, read_name, explain-name, help-name}

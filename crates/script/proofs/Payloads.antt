@@ -1,9 +1,6 @@
 -- What comes of a payload that is given, and of what is none.
 -- Assumes nothing.
-use Rattle.std.proofs.Common.{◌≡◌, ℕ, List, [], ◌∷◌, refl, ap, ◌∙◌}
-use denote.Enum.Declared.{tag_of}
-use types.Run.{OneOf, miss}
-use Rattle.words.specs.contracts.hex.Hex.{the_type}
+use Rattle.std.proofs.Common.{◌≡◌, ℕ, List, refl, ap, ◌∙◌}
 use Rattle.words.specs.declared.hex.Hex.{Hex}
 use Rattle.words.specs.declared.hex.Hex.TheVariants.{Bytes, Odd, Foreign, Long}
 use Rattle.lent.specs.Lent.{Left, left}
@@ -15,20 +12,20 @@ use Rattle.script.specs.declared.call.Payload as given-payload
 use Rattle.script.specs.declared.payload.Given.{Given}
 use Rattle.script.specs.declared.payload.Given.TheVariants.{Payload, Wrong}
 
--- the cases of `Hex` that are no bytes, by their places
-abbrev pub others : List ℕ
-others = 1 ∷ 2 ∷ 3 ∷ []
+-- r is no bytes
+abbrev pub NoBytes : Hex → Type 0
+NoBytes r = (n : ℕ) → r ≡ Bytes n → ⊥
 
-none : (kind : ℕ) (r : Hex) → OneOf others (tag_of the_type r) → Wrong ≡ given_by kind r
+none : (kind : ℕ) (r : Hex) → NoBytes r → Wrong ≡ given_by kind r
 unfolding given_by
-none kind (Bytes n) h = absurd (miss others 0 tt h)
+none kind (Bytes n) h = absurd (h n refl)
 none kind Odd h = refl
 none kind (Foreign i) h = refl
 none kind Long h = refl
 
 -- bytes are read, and o is what that comes to
 module _ (kind : ℕ) (r : Hex) (lent : List ℕ) (o : Left Hex) (e : left r lent ≡ o) where
-  pub no_bytes : OneOf others (tag_of the_type r) → left Wrong lent ≡ counted kind o
+  pub no_bytes : NoBytes r → left Wrong lent ≡ counted kind o
   no_bytes h = ap (λ (g : Given). left g lent) (none kind r h) ∙ ap (counted kind) e
 
   pub some_bytes : (n : ℕ) → r ≡ Bytes n → left (Payload (record { kind = kind; size = n; count = n })) lent ≡ counted kind o

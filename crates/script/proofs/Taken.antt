@@ -1,7 +1,7 @@
 -- The bytes of a chunk, one after the other: with one of them the line ends or goes on, and where none is left nothing changes.
 -- Assumes nothing.
 use Rattle.std.proofs.Common.{◌≡◌, ℕ, suc, ◌+◌, ◌<◌, ◌≤◌, Bool, true, false, eqb, ltb, List, length, get_or, drop, set, sym, refl, ap, ◌∙◌, add-one, drop_of_length-le, drop-cons}
-use Rattle.bits.specs.Choice.{if◌then◌else◌}
+use Rattle.std.specs.Prelude.{if◌then◌else◌}
 use Rattle.script.specs.Input.{plain_byte, Step, step, ended, longer, with_byte, taken, line_on}
 use Rattle.script.specs.declared.input.Input.{Input}
 

@@ -2,15 +2,13 @@
 -- Assumes nothing.
 use Rattle.std.proofs.Common.{◌≡◌, ℕ, ◌+◌, ◌-◌, ◌<◌, ◌≤◌, Bool, true, false, eqb, List, [], ◌∷◌, length, take, drop, sym, refl, ap, ◌∙◌, arith, length-drop, length-take, take_all, drop-drop, eq-eqb, eqb-true}
 use lib.Seq.{take-length}
-use Rattle.bits.specs.Choice.{if◌then◌else◌}
-use Rattle.bytes.specs.Bytes.{index_of, slice}
-use Rattle.words.specs.Place.{run, led}
+use Rattle.std.specs.Prelude.{if◌then◌else◌}
+use Rattle.words.specs.Place.{index_of, slice, run, led}
 use Rattle.script.specs.Words.{alike, first_of, rest_of}
 
 -- ---- words
 
 pub found_from : (s : List ℕ) (b at e : ℕ) → e ≡ at + index_of b (slice at (length s) s) → e ≡ at + index_of b (drop at s)
-unfolding slice
 found_from s b at e p = rw (take-length s) at p
 
 found : (s : List ℕ) (b e : ℕ) → e ≡ 0 + index_of b (slice 0 (length s) s) → e ≡ index_of b s
@@ -56,7 +54,7 @@ apart : (t : Bool) (a b : List ℕ) → alike a b ≡ t → (a ≡ b → false �
 apart true a b p differ = differ (alike_same a b p)
 apart false a b p differ = refl
 
--- what `check::same` answers
+-- what a test for the same text answers
 pub tested : (r : Bool) (a b : List ℕ) → (r ≡ true → a ≡ b) × (a ≡ b → r ≡ true) → r ≡ alike a b
 tested true a b p = rw (p.0 refl) (sym (alike_refl b))
 tested false a b p = apart (alike a b) a b refl p.1

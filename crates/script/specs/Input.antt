@@ -1,6 +1,5 @@
 -- How far the input is read, to the end of a line or one chunk further. What the outside gives is how many bytes a chunk has, and which.
-use Rattle.std.specs.Prelude.{ℕ, ◌+◌, ◌%◌, ◌^◌, Bool, true, false, List, [], ◌∷◌, take, drop, ◌==◌, nat_lt, slice_set}
-use Rattle.bits.specs.Choice.{if◌then◌else◌}
+use Rattle.std.specs.Prelude.{ℕ, ◌+◌, ◌%◌, ◌^◌, Bool, true, false, List, [], ◌∷◌, take, drop, ◌==◌, nat_lt, slice_set, if◌then◌else◌}
 use Rattle.script.specs.declared.input.Input.{Input}
 
 -- nothing is read

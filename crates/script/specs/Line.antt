@@ -1,6 +1,5 @@
 -- The call that a line spells: its first word names it, and the help text says what follows.
-use Rattle.std.specs.Prelude.{ℕ, List, [], ◌∷◌, take, drop, ◌==◌, nat_lt}
-use Rattle.bits.specs.Choice.{if◌then◌else◌}
+use Rattle.std.specs.Prelude.{ℕ, List, [], ◌∷◌, take, drop, ◌==◌, nat_lt, if◌then◌else◌}
 use Rattle.lent.specs.Lent.{Left, left}
 use Rattle.words.specs.Place.{content_of}
 use Rattle.words.specs.Number.{number_of}

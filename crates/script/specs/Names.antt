@@ -1,6 +1,5 @@
 -- The calls by name.
-use Rattle.std.specs.Prelude.{ℕ, suc, List, [], ◌∷◌, ◌==◌}
-use Rattle.bits.specs.Choice.{if◌then◌else◌}
+use Rattle.std.specs.Prelude.{ℕ, suc, List, [], ◌∷◌, ◌==◌, if◌then◌else◌}
 use Rattle.script.specs.Words.{alike}
 
 -- one character more at the front of a list of words: it is of the first, where there is one

@@ -1,6 +1,5 @@
 -- The payload that a text spells: KIND [size=N] BYTES.
-use Rattle.std.specs.Prelude.{ℕ, List, [], ◌∷◌, take, drop}
-use Rattle.bits.specs.Choice.{if◌then◌else◌}
+use Rattle.std.specs.Prelude.{ℕ, List, [], ◌∷◌, take, drop, if◌then◌else◌}
 use Rattle.lent.specs.Lent.{Left, left}
 use Rattle.words.specs.Number.{number_of}
 use Rattle.words.specs.Hex.{spelling, into}

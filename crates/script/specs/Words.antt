@@ -1,8 +1,6 @@
 -- The words of a text, which are apart by spaces, and the numbers that they spell.
-use Rattle.std.specs.Prelude.{ℕ, Bool, true, false, List, [], ◌∷◌, take, drop, ◌==◌}
-use Rattle.bits.specs.Choice.{if◌then◌else◌}
-use Rattle.bytes.specs.Bytes.{index_of}
-use Rattle.words.specs.Place.{led}
+use Rattle.std.specs.Prelude.{ℕ, Bool, true, false, List, [], ◌∷◌, take, drop, ◌==◌, if◌then◌else◌}
+use Rattle.words.specs.Place.{index_of, led}
 use Rattle.words.specs.Number.{number_of}
 use Rattle.words.specs.declared.number.Spelled.{Spelled}
 use Rattle.words.specs.declared.number.Spelled.TheVariants.{Value, Empty, Foreign, Large}

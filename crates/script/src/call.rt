@@ -1,5 +1,5 @@
 // What a line asks for.
-#[derive(Drop)]
+#[derive(Clone, Copy)]
 pub enum Call {
     // On a slot.
     Open(u64),
@@ -18,7 +18,7 @@ pub enum Call {
 }
 
 // Its kind, its stated size, and how many bytes there are.
-#[derive(Drop)]
+#[derive(Clone, Copy)]
 pub struct Payload {
     pub kind: u64,
     pub size: u64,

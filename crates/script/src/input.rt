@@ -3,7 +3,7 @@ ghost use Rattle.std.specs.Prelude.{◌≡◌, ◌≤◌, true, false};
 ghost use Rattle.script.specs.Input.{begun, plain_byte, onward_of, filled_of, with_byte, byte_left, rest, line_on, step, next_of};
 
 use lent::front;
-use libc::STDIN_FILENO;
+use std::io::{Read, Stdin};
 
 // Bytes that are read at once, and one more than a line may have.
 pub const CHUNK: usize = 4096;
@@ -11,7 +11,7 @@ pub const CHUNK: usize = 4096;
 pub const LINE: usize = 32768;
 
 // How far the input is read.
-#[derive(Drop)]
+#[derive(Clone, Copy)]
 pub struct Input {
     // What is taken of the chunk, and what there is of it.
     pub at: usize,
@@ -38,6 +38,16 @@ fn plain(b: u8) -> u8
     }
 }
 
+// How many bytes are read: none where the input is over or fails.
+fn got(mut stdin: Stdin, chunk: &mut [u8; CHUNK]) -> usize
+    ensures { result ≤ 4096 }
+{
+    match stdin.read(chunk) {
+        Ok(n) => n,
+        Err(_) => 0,
+    }
+}
+
 impl Input {
     pub fn start() -> Input
         ensures { result ≡ begun }
@@ -57,7 +67,7 @@ impl Input {
         ensures { result ≡ onward_of self }
     {
         if self.whole {
-            self.line = std::num::wrapping_add_u64(self.line, 1);
+            self.line = self.line.wrapping_add(1);
             self.length = 0;
             self.whole = false;
         }
@@ -65,11 +75,10 @@ impl Input {
     }
 
     // The next chunk. A last line may have no end of line.
-    fn filled(mut self, chunk: &mut [u8; CHUNK]) -> Input
+    fn filled(mut self, stdin: Stdin, chunk: &mut [u8; CHUNK]) -> Input
         ensures { (result ≡ filled_of self result.end) × (result.end ≤ 4096) }
     {
-        let got = libc::read(STDIN_FILENO, chunk);
-        let n = io::count(got, chunk);
+        let n = got(stdin, chunk);
         self.at = 0;
         self.end = n;
         if n == 0 {
@@ -112,7 +121,7 @@ impl Input {
     }
 
     // What is left of the line in the chunk; where no byte is left a chunk is read, of which only the outside knows how many bytes there are, and which.
-    pub fn next(self, chunk: &mut [u8; CHUNK], line: &mut [u8; LINE]) -> Input
+    pub fn next(self, stdin: Stdin, chunk: &mut [u8; CHUNK], line: &mut [u8; LINE]) -> Input
         ensures line_after { step result line.new ≡ next_of self chunk.old line.old result.end }
         ensures chunk_unchanged { byte_left (onward_of self) ≡ true → chunk.new ≡ chunk.old }
         ensures end_bound { byte_left (onward_of self) ≡ false → result.end ≤ 4096 }
@@ -124,6 +133,6 @@ impl Input {
                 return r.through(chunk, line);
             }
         }
-        r.filled(chunk)
+        r.filled(stdin, chunk)
     }
 }

@@ -1,4 +1,6 @@
 // A script: its lines, the calls that they spell, and what is wrong with one.
+#![tactic(auto)]
+
 mod argument;
 pub mod call;
 pub mod input;

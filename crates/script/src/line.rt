@@ -5,23 +5,24 @@ ghost use Rattle.script.specs.Payload.{payload_of};
 ghost use Rattle.lent.specs.Lent.{left};
 ghost use Rattle.script.specs.Line.{numbered, slot_call, table_of, feed_of, help_of, read_call, with_payload, spelled_of, unmarked_of, said_of, call_of};
 
-use crate::argument::{argument, first, last, rest};
+use crate::argument::{argument, first, last, rest, same};
 use crate::call::Call;
 use crate::input::{Input, LINE};
 use crate::payload::{Given, payload};
 use crate::wrong::{At, wrong};
 use crate::{name, wrong};
 use lent::front;
+use print::Out;
 use words::number::Spelled;
 use words::place::content;
 
 // More than a payload may have, so that its refusal can be seen.
 pub const BYTES: usize = 10000;
 
-fn slot(at: At, s: &[u8]) -> Call
+fn slot(to: &mut Out, at: At, s: &[u8]) -> Call
     ensures { result ≡ numbered (slot_call at.call) (last_of s.now) }
 {
-    let r = last(at, s, wrong::NO_SLOT);
+    let r = last(to, at, s, wrong::NO_SLOT);
     let Spelled::Value(n) = r else {
         return Call::Nothing;
     };
@@ -34,38 +35,38 @@ fn slot(at: At, s: &[u8]) -> Call
     }
 }
 
-fn table(at: At, s: &[u8]) -> Call
+fn table(to: &mut Out, at: At, s: &[u8]) -> Call
     ensures { result ≡ table_of s.now }
 {
-    let r = argument(at, s, wrong::NO_SLOT);
+    let r = argument(to, at, s, wrong::NO_SLOT);
     let Spelled::Value(slot) = r else {
         return Call::Nothing;
     };
-    let lent = last(at, rest(s), wrong::NO_COUNT);
+    let lent = last(to, at, rest(s), wrong::NO_COUNT);
     let Spelled::Value(n) = lent else {
         return Call::Nothing;
     };
     Call::Table(slot, n)
 }
 
-fn feed(at: At, s: &[u8], out: &mut [u8]) -> Call
+fn feed(to: &mut Out, at: At, s: &[u8], out: &mut [u8]) -> Call
     ensures { left result out.new ≡ feed_of s.now out.old }
 {
-    let r = argument(at, s, wrong::NO_SLOT);
+    let r = argument(to, at, s, wrong::NO_SLOT);
     let Spelled::Value(slot) = r else {
         return Call::Nothing;
     };
-    let given = payload(at, rest(s), out);
+    let given = payload(to, at, rest(s), out);
     let Given::Payload(p) = given else {
         return Call::Nothing;
     };
     Call::Feed(slot, p)
 }
 
-fn read(at: At, s: &[u8], out: &mut [u8]) -> Call
+fn read(to: &mut Out, at: At, s: &[u8], out: &mut [u8]) -> Call
     ensures { left result out.new ≡ with_payload (read_call at.call) (payload_of s.now out.old) }
 {
-    let given = payload(at, s, out);
+    let given = payload(to, at, s, out);
     let Given::Payload(p) = given else {
         return Call::Nothing;
     };
@@ -77,18 +78,18 @@ fn read(at: At, s: &[u8], out: &mut [u8]) -> Call
 }
 
 // Help is asked for alone.
-fn help(at: At, s: &[u8]) -> Call
+fn help(to: &mut Out, at: At, s: &[u8]) -> Call
     ensures { result ≡ help_of s.now }
 {
     if s.len() != 0 {
-        wrong(at, s, wrong::TOO_MUCH);
+        wrong(to, at, s, wrong::TOO_MUCH);
         return Call::Nothing;
     }
     Call::Help
 }
 
 // The call of a line that is not empty.
-fn spelled(line: u64, s: &[u8], out: &mut [u8]) -> Call
+fn spelled(to: &mut Out, line: u64, s: &[u8], out: &mut [u8]) -> Call
     ensures { left result out.new ≡ spelled_of s.now out.old }
 {
     let word = first(s);
@@ -96,13 +97,13 @@ fn spelled(line: u64, s: &[u8], out: &mut [u8]) -> Call
     let call = name::place(word);
     let at = At { line, call };
     match call {
-        name::OPEN..=name::PICTURE => slot(at, after),
-        name::TABLE => table(at, after),
-        name::FEED => feed(at, after, out),
-        name::READ..=name::EXPLAIN => read(at, after, out),
-        name::HELP => help(at, after),
+        name::OPEN..=name::PICTURE => slot(to, at, after),
+        name::TABLE => table(to, at, after),
+        name::FEED => feed(to, at, after, out),
+        name::READ..=name::EXPLAIN => read(to, at, after, out),
+        name::HELP => help(to, at, after),
         _ => {
-            wrong(at, word, wrong::NO_CALL);
+            wrong(to, at, word, wrong::NO_CALL);
             Call::Nothing
         }
     }
@@ -116,7 +117,7 @@ fn unmarked(line: u64, s: &[u8]) -> &[u8]
         if 3 <= s.len() {
             let start = 0;
             let end = 3;
-            if check::same(&s[start..end], b"\xEF\xBB\xBF") {
+            if same(&s[start..end], b"\xEF\xBB\xBF") {
                 return &s[end..];
             }
         }
@@ -132,16 +133,16 @@ pub fn said(input: Input, line: &[u8; LINE]) -> &[u8]
 }
 
 // The call that a line spells, and its bytes, which are lent; or what is wrong is said.
-pub fn call(input: Input, line: &[u8; LINE], out: &mut [u8; BYTES]) -> Call
+pub fn call(to: &mut Out, input: Input, line: &[u8; LINE], out: &mut [u8; BYTES]) -> Call
     ensures { left result out.new ≡ call_of input.line input.length line.now out.old }
 {
     if LINE <= input.length {
-        wrong::long(input.line);
+        wrong::long(to, input.line);
         return Call::Nothing;
     }
     let s = said(input, line);
     if s.len() == 0 {
         return Call::Nothing;
     }
-    spelled(input.line, s, out)
+    spelled(to, input.line, s, out)
 }

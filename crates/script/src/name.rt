@@ -2,7 +2,8 @@
 ghost use Rattle.std.specs.Prelude.{◌≡◌};
 ghost use Rattle.script.specs.Names.{words_of, place_in, names};
 
-use print::{ROOM, piece};
+use crate::argument::same;
+use print::{Out, piece};
 use words::place::find;
 
 pub const OPEN: u64 = 0;
@@ -31,7 +32,7 @@ fn among(list: &[u8], word: &[u8]) -> u64
     let mut at = 0;
     let mut end = find(list, 0, b'|');
     while end < list.len() {
-        if check::same(&list[at..end], word) {
+        if same(&list[at..end], word) {
             return n;
         }
         n += 1;
@@ -51,7 +52,7 @@ pub fn place(word: &[u8]) -> u64
 }
 
 // How the call at a place is written.
-pub fn form(out: &mut [u8; ROOM], place: u64) {
+pub fn form(out: &mut Out, place: u64) {
     piece(
         out,
         b"open SLOT|close SLOT|sequence SLOT|picture SLOT|table SLOT NUMBERS|feed SLOT KIND [size=N] BYTES|\

@@ -4,14 +4,15 @@ ghost use Rattle.words.specs.Hex.{spelling, into};
 ghost use Rattle.lent.specs.Lent.{left};
 ghost use Rattle.script.specs.Payload.{plain_of, stated_of, payload_of};
 
-use crate::argument::{argument, rest};
+use crate::argument::{argument, rest, same};
 use crate::call::Payload;
 use crate::wrong;
 use crate::wrong::{At, wrong};
+use print::Out;
 use words::hex::{Hex, bytes};
 use words::number::Spelled;
 
-#[derive(Drop)]
+#[derive(Clone, Copy)]
 pub enum Given {
     Payload(Payload),
     // What is wrong has been said.
@@ -19,17 +20,17 @@ pub enum Given {
 }
 
 // How many bytes a text spells. What is wrong with them has been said.
-fn count(at: At, s: &[u8], out: &mut [u8]) -> Hex
+fn count(to: &mut Out, at: At, s: &[u8], out: &mut [u8]) -> Hex
     ensures { left result out.new ≡ into out.old (spelling 0 0 s.now) }
 {
     let r = bytes(s, out);
     match r {
         Hex::Bytes(_) => {}
-        Hex::Odd => wrong(at, b"", wrong::ODD),
-        Hex::Long => wrong(at, b"", wrong::LONG),
+        Hex::Odd => wrong(to, at, b"", wrong::ODD),
+        Hex::Long => wrong(to, at, b"", wrong::LONG),
         Hex::Foreign(i) => {
             if i < s.len() {
-                wrong(at, &s[i..], wrong::NO_HEX);
+                wrong(to, at, &s[i..], wrong::NO_HEX);
             }
         }
     }
@@ -37,10 +38,10 @@ fn count(at: At, s: &[u8], out: &mut [u8]) -> Hex
 }
 
 // Bytes alone: their count is the size.
-fn plain(at: At, kind: u64, s: &[u8], out: &mut [u8]) -> Given
+fn plain(to: &mut Out, at: At, kind: u64, s: &[u8], out: &mut [u8]) -> Given
     ensures { left result out.new ≡ plain_of kind s.now out.old }
 {
-    let r = count(at, s, out);
+    let r = count(to, at, s, out);
     let Hex::Bytes(n) = r else {
         return Given::Wrong;
     };
@@ -52,14 +53,14 @@ fn plain(at: At, kind: u64, s: &[u8], out: &mut [u8]) -> Given
 }
 
 // The size, and then the bytes.
-fn stated(at: At, kind: u64, s: &[u8], out: &mut [u8]) -> Given
+fn stated(to: &mut Out, at: At, kind: u64, s: &[u8], out: &mut [u8]) -> Given
     ensures { left result out.new ≡ stated_of kind s.now out.old }
 {
-    let size = argument(at, s, wrong::NO_SIZE);
+    let size = argument(to, at, s, wrong::NO_SIZE);
     let Spelled::Value(n) = size else {
         return Given::Wrong;
     };
-    let given = plain(at, kind, rest(s), out);
+    let given = plain(to, at, kind, rest(s), out);
     let Given::Payload(payload) = given else {
         return given;
     };
@@ -68,10 +69,10 @@ fn stated(at: At, kind: u64, s: &[u8], out: &mut [u8]) -> Given
     Given::Payload(sized)
 }
 
-pub fn payload(at: At, s: &[u8], out: &mut [u8]) -> Given
+pub fn payload(to: &mut Out, at: At, s: &[u8], out: &mut [u8]) -> Given
     ensures { left result out.new ≡ payload_of s.now out.old }
 {
-    let r = argument(at, s, wrong::NO_KIND);
+    let r = argument(to, at, s, wrong::NO_KIND);
     let Spelled::Value(kind) = r else {
         return Given::Wrong;
     };
@@ -79,9 +80,9 @@ pub fn payload(at: At, s: &[u8], out: &mut [u8]) -> Given
     if 5 <= after.len() {
         let start = 0;
         let end = 5;
-        if check::same(&after[start..end], b"size=") {
-            return stated(at, kind, &after[end..], out);
+        if same(&after[start..end], b"size=") {
+            return stated(to, at, kind, &after[end..], out);
         }
     }
-    plain(at, kind, after, out)
+    plain(to, at, kind, after, out)
 }

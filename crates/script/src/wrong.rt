@@ -1,6 +1,6 @@
 // Lines that are wrong: which, what is wrong, and what is expected.
 use crate::name::form;
-use print::{ROOM, flush, mark, numbered, piece, printable, text};
+use print::{Fault, Out, flush, mark, numbered, piece, printable, text};
 
 // What is wrong, by its place in the list below.
 pub const NO_SLOT: u64 = 0;
@@ -25,7 +25,7 @@ pub const LONG: u64 = 9;
 
 pub const NO_CALL: u64 = 10;
 
-fn reason(out: &mut [u8; ROOM], why: u64) {
+fn reason(out: &mut Out, why: u64) {
     piece(
         out,
         b"the slot number is missing|how many numbers are lent is missing|the kind is missing|the size is missing|\
@@ -36,14 +36,14 @@ fn reason(out: &mut [u8; ROOM], why: u64) {
 }
 
 // A line by its number, and its call by the place of its name.
-#[derive(Drop)]
+#[derive(Clone, Copy)]
 pub struct At {
     pub line: u64,
     pub call: u64,
 }
 
 // The word that is wrong, if there is one.
-fn quoted(out: &mut [u8; ROOM], word: &[u8]) {
+fn quoted(out: &mut Out, word: &[u8]) {
     if word.len() != 0 {
         text(out, b"'");
         printable(out, word);
@@ -51,26 +51,24 @@ fn quoted(out: &mut [u8; ROOM], word: &[u8]) {
     }
 }
 
-// Each of the two marks the line as wrong, and has a buffer of its own, so that what a line spells stays apart from what is written.
-pub fn wrong(at: At, word: &[u8], why: u64) {
-    let mut out = [0u8; ROOM];
-    numbered(&mut out, b"line #: ", at.line);
-    quoted(&mut out, word);
-    reason(&mut out, why);
-    text(&mut out, b"; expected: ");
-    form(&mut out, at.call);
-    text(&mut out, b"\n");
-    flush(&mut out);
-    mark(b'1');
+// Each of the two marks the line as wrong.
+pub fn wrong(out: &mut Out, at: At, word: &[u8], why: u64) {
+    numbered(out, b"line #: ", at.line);
+    quoted(out, word);
+    reason(out, why);
+    text(out, b"; expected: ");
+    form(out, at.call);
+    text(out, b"\n");
+    flush(out);
+    mark(out, Fault::Line);
 }
 
-pub fn long(n: u64) {
-    let mut out = [0u8; ROOM];
+pub fn long(out: &mut Out, n: u64) {
     numbered(
-        &mut out,
+        out,
         b"line #: the line is longer than 32767 characters\n",
         n,
     );
-    flush(&mut out);
-    mark(b'1');
+    flush(out);
+    mark(out, Fault::Line);
 }
