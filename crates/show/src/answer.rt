@@ -4,10 +4,10 @@ use crate::field::{NONE, Place, fields};
 use crate::kind;
 use crate::number::{hint, read, sentence};
 use crate::style::Style;
-use print::{ROOM, number, numbered, text};
+use print::{Out, number, numbered, text};
 
 // A kind by number and name, on a line of its own.
-fn named(out: &mut [u8; ROOM], kind: u64) {
+fn named(out: &mut Out, kind: u64) {
     text(out, b"\n  kind ");
     number(out, kind);
     text(out, b": ");
@@ -15,12 +15,12 @@ fn named(out: &mut [u8; ROOM], kind: u64) {
 }
 
 // A held record, explained. The payload that it came from is gone.
-pub fn held(out: &mut [u8; ROOM], kind: u64, row: &[u64]) {
+pub fn held(out: &mut Out, kind: u64, row: &[u64]) {
     named(out, kind);
     kind::record(out, Style::Explained, kind, row, b"", b"", false);
 }
 
-fn extension(out: &mut [u8; ROOM], style: Style, row: &[u64]) {
+fn extension(out: &mut Out, style: Style, row: &[u64]) {
     let place = Place {
         from: 0,
         index: NONE,
@@ -38,7 +38,7 @@ fn extension(out: &mut [u8; ROOM], style: Style, row: &[u64]) {
 }
 
 // A payload that was read: its kind and its stated size, and the number that it is answered.
-#[derive(Drop)]
+#[derive(Clone, Copy)]
 pub struct Asked {
     pub kind: u64,
     pub size: u64,
@@ -46,7 +46,7 @@ pub struct Asked {
 }
 
 // The kind, what the number means, and where to look.
-fn introduce(out: &mut [u8; ROOM], asked: Asked, payload: &[u8]) {
+fn introduce(out: &mut Out, asked: Asked, payload: &[u8]) {
     let n = asked.number;
     named(out, asked.kind);
     numbered(out, b", size #\n  ", asked.size);
@@ -59,14 +59,7 @@ fn introduce(out: &mut [u8; ROOM], asked: Asked, payload: &[u8]) {
 }
 
 // The number and, unless it is a refusal, the extension's length and the fields.
-pub fn answer(
-    out: &mut [u8; ROOM],
-    style: Style,
-    asked: Asked,
-    row: &[u64],
-    payload: &[u8],
-    part: &[u8],
-) {
+pub fn answer(out: &mut Out, style: Style, asked: Asked, row: &[u64], payload: &[u8], part: &[u8]) {
     let n = asked.number;
     read(out, n);
     if let Style::Explained = style {

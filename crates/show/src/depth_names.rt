@@ -6,10 +6,10 @@ use crate::field::{NONE, Place, at, fields};
 use crate::fraction::{decimal, multiple, power};
 use crate::names::carried;
 use crate::style::{Style, apart, depth};
-use print::{ROOM, bits, number, piece, text};
+use print::{Out, bits, number, piece, text};
 
 // m × 2^(e - 31 - v).
-fn product(out: &mut [u8; ROOM], m: u64, e: u64, v: u64)
+fn product(out: &mut Out, m: u64, e: u64, v: u64)
     requires { (m ≤ 8589934592) × (0 < e) × (v ≤ 32) }
 {
     let whole = 31 + v;
@@ -21,7 +21,7 @@ fn product(out: &mut [u8; ROOM], m: u64, e: u64, v: u64)
 }
 
 // The number that an exponent e and a mantissa n of v bits stand for.
-fn magnitude(out: &mut [u8; ROOM], e: u64, v: u64, n: u64)
+fn magnitude(out: &mut Out, e: u64, v: u64, n: u64)
     requires { (v ≤ 32) × (n < 4294967296) }
 {
     if e == 0 {
@@ -32,7 +32,7 @@ fn magnitude(out: &mut [u8; ROOM], e: u64, v: u64, n: u64)
 }
 
 // The number in decimal; only a negative one has the highest of its 64 bits set.
-fn specified(out: &mut [u8; ROOM], row: &[u64], from: usize)
+fn specified(out: &mut Out, row: &[u64], from: usize)
     requires { from ≤ 256 }
 {
     if 9223372036854775808 <= at(row, from + 5) {
@@ -47,13 +47,13 @@ fn specified(out: &mut [u8; ROOM], row: &[u64], from: usize)
 }
 
 // The name of one of the four, or of what codes it, by its end.
-fn name(out: &mut [u8; ROOM], flag: usize, end: &[u8]) {
+fn name(out: &mut Out, flag: usize, end: &[u8]) {
     piece(out, b"|z_near|z_far|d_min|d_max", flag as u64);
     text(out, end);
 }
 
 // The number, if it is one, and its bits.
-fn value(out: &mut [u8; ROOM], row: &[u64], flag: usize, from: usize)
+fn value(out: &mut Out, row: &[u64], flag: usize, from: usize)
     requires { from ≤ 256 }
 {
     if at(row, from + 4) == 1 {
@@ -67,13 +67,13 @@ fn value(out: &mut [u8; ROOM], row: &[u64], flag: usize, from: usize)
 }
 
 // A part of what codes it, by its name in depth_rep_info_element.
-fn part(out: &mut [u8; ROOM], flag: usize, end: &[u8], n: u64) {
+fn part(out: &mut Out, flag: usize, end: &[u8], n: u64) {
     text(out, b" ");
     name(out, flag, end);
     number(out, n);
 }
 
-fn parts(out: &mut [u8; ROOM], row: &[u64], flag: usize, from: usize)
+fn parts(out: &mut Out, row: &[u64], flag: usize, from: usize)
     requires { from ≤ 256 }
 {
     part(out, flag, b".da_sign_flag=", at(row, from));
@@ -83,7 +83,7 @@ fn parts(out: &mut [u8; ROOM], row: &[u64], flag: usize, from: usize)
 }
 
 // What a number measures, where it is explained: the first two of the four are depths.
-fn measured(out: &mut [u8; ROOM], style: Style, flag: usize) {
+fn measured(out: &mut Out, style: Style, flag: usize) {
     let Style::Explained = style else {
         return;
     };
@@ -95,7 +95,7 @@ fn measured(out: &mut [u8; ROOM], style: Style, flag: usize) {
 }
 
 // A number that is coded.
-fn coded(out: &mut [u8; ROOM], style: Style, row: &[u64], flag: usize)
+fn coded(out: &mut Out, style: Style, row: &[u64], flag: usize)
     requires { flag ≤ 4 }
 {
     let from = 6 * flag + 1;
@@ -105,7 +105,7 @@ fn coded(out: &mut [u8; ROOM], style: Style, row: &[u64], flag: usize)
 }
 
 // One of the four numbers, which its flag in the row says is there.
-fn element(out: &mut [u8; ROOM], style: Style, row: &[u64], flag: usize)
+fn element(out: &mut Out, style: Style, row: &[u64], flag: usize)
     requires { flag ≤ 4 }
 {
     let there = at(row, flag) == 1;
@@ -123,7 +123,7 @@ fn element(out: &mut [u8; ROOM], style: Style, row: &[u64], flag: usize)
 // The list of type 3, which stands in the row from here on, and which H.274 counts from 1.
 const LIST: usize = 32;
 
-fn list(out: &mut [u8; ROOM], style: Style, row: &[u64], count: u64) {
+fn list(out: &mut Out, style: Style, row: &[u64], count: u64) {
     let mut i: usize = LIST;
     let mut index: u64 = 1;
     while index <= count {
@@ -153,7 +153,7 @@ fn viewed(d_min_flag: u64, d_max_flag: u64) -> bool {
     d_min_flag == 1 || d_max_flag == 1
 }
 
-pub(crate) fn depth_information(out: &mut [u8; ROOM], style: Style, row: &[u64]) {
+pub(crate) fn depth_information(out: &mut Out, style: Style, row: &[u64]) {
     fields(
         out,
         style,

@@ -1,5 +1,5 @@
 // Emulation prevention bytes: in the video's bytes a 03 is put after 00 00 where 00 to 03 would follow, and taken out again before a payload is read.
-use print::{ROOM, text};
+use print::{Out, text};
 
 // Whether bytes begin with 00 00 03.
 fn begins(s: &[u8]) -> bool {
@@ -21,7 +21,7 @@ fn contained(s: &[u8]) -> bool {
 }
 
 // A payload that has them may end too early, break a rule or have a bad tail.
-pub(crate) fn emulation(out: &mut [u8; ROOM], n: u32, payload: &[u8]) {
+pub(crate) fn emulation(out: &mut Out, n: u32, payload: &[u8]) {
     match n {
         3 | 5 | 7 => {
             if contained(payload) {

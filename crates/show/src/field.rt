@@ -3,11 +3,11 @@
 ghost use Rattle.std.specs.Prelude.{◌≤◌, length};
 
 use crate::style::{Style, margin};
-use print::{ROOM, byte, number, piece, text};
+use print::{Out, byte, number, piece, text};
 use words::place::find;
 
 // Where fields stand in a row, and which of them are shown.
-#[derive(Drop)]
+#[derive(Clone, Copy)]
 pub(crate) struct Place {
     pub from: usize,
     // The index that follows their names.
@@ -25,7 +25,7 @@ pub(crate) fn at(row: &[u64], i: usize) -> u64 {
 }
 
 // Meanings that several kinds share, by a letter.
-fn common(out: &mut [u8; ROOM], letter: u8, n: u64) {
+fn common(out: &mut Out, letter: u8, n: u64) {
     match letter {
         b'c' => piece(out, b"fields follow|ends what is held", n),
         b'p' => piece(
@@ -39,7 +39,7 @@ fn common(out: &mut [u8; ROOM], letter: u8, n: u64) {
 }
 
 // What 0, 1 and so on mean, with a bar between them, the last for all that are larger; or '@' and the letter of a shared meaning.
-fn meaning(out: &mut [u8; ROOM], s: &[u8], n: u64) {
+fn meaning(out: &mut Out, s: &[u8], n: u64) {
     if s.len() == 0 {
         return;
     }
@@ -54,7 +54,7 @@ fn meaning(out: &mut [u8; ROOM], s: &[u8], n: u64) {
     piece(out, s, n);
 }
 
-fn named(out: &mut [u8; ROOM], name: &[u8], index: u64) {
+fn named(out: &mut Out, name: &[u8], index: u64) {
     text(out, name);
     if index != NONE {
         byte(out, b'[');
@@ -65,7 +65,7 @@ fn named(out: &mut [u8; ROOM], name: &[u8], index: u64) {
 
 // A field by its name, before which stands how deep it lies and a space, and by what its values mean. The space goes before the name: in a line
 // it parts the fields, and explained it is the last of a line's margin.
-fn field(out: &mut [u8; ROOM], style: Style, place: Place, n: u64, name: &[u8], means: &[u8]) {
+fn field(out: &mut Out, style: Style, place: Place, n: u64, name: &[u8], means: &[u8]) {
     let start = 1;
     if name.len() < start {
         return;
@@ -101,7 +101,7 @@ fn wanted(style: Style, s: &[u8], start: usize) -> usize
 
 // The numbers of a row from a place on: a line of names for each, and a line of what its values mean.
 pub(crate) fn fields(
-    out: &mut [u8; ROOM],
+    out: &mut Out,
     style: Style,
     row: &[u64],
     place: Place,

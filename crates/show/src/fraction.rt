@@ -1,7 +1,7 @@
 // Numbers m × 2^k and m / 2^k in decimal, to the last digit.
 ghost use Rattle.std.specs.Prelude.{◌≡◌, ◌^◌, ◌≤◌, ◌<◌};
 
-use print::{ROOM, number, padded, text};
+use print::{Out, number, padded, text};
 
 // 2^k.
 pub(crate) fn power(k: u64) -> u64
@@ -12,7 +12,7 @@ pub(crate) fn power(k: u64) -> u64
 }
 
 // The digits of rest / parts, parts being a power of two: ten times a half is five times the whole.
-fn digits(out: &mut [u8; ROOM], rest: u64, parts: u64)
+fn digits(out: &mut Out, rest: u64, parts: u64)
     requires { (rest < parts) × (rest ≤ 2305843009213693952) × (parts ≤ 4611686018427387904) }
 {
     let mut r = rest;
@@ -26,7 +26,7 @@ fn digits(out: &mut [u8; ROOM], rest: u64, parts: u64)
 }
 
 // n / parts, parts being a power of two.
-pub(crate) fn decimal(out: &mut [u8; ROOM], n: u64, parts: u64)
+pub(crate) fn decimal(out: &mut Out, n: u64, parts: u64)
     requires { (n ≤ 2305843009213693952) × (0 < parts) × (parts ≤ 4611686018427387904) }
 {
     number(out, n / parts);
@@ -41,7 +41,7 @@ pub(crate) fn decimal(out: &mut [u8; ROOM], n: u64, parts: u64)
 const LIMB: u64 = 1000000000000000;
 
 // m × 2^k, which is below 10^30.
-pub(crate) fn multiple(out: &mut [u8; ROOM], m: u64, k: u64)
+pub(crate) fn multiple(out: &mut Out, m: u64, k: u64)
     requires { m < 1000000000000000 }
 {
     let mut high: u64 = 0;

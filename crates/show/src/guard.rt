@@ -1,7 +1,7 @@
 // Guard band types of kinds 150 and 155: 0 to 3, and 4 to 7, which are reserved and read as 0.
 ghost use Rattle.std.specs.Prelude.{◌≤◌, ◌<◌};
 
-use print::{ROOM, piece};
+use print::{Out, piece};
 
 // What a type that was handed out as 0 is taken for where the payload is not there to tell how it is coded.
 const UNKNOWN: u64 = 8;
@@ -33,7 +33,7 @@ pub(crate) fn reserved(code: u64) -> bool {
     code < UNKNOWN
 }
 
-pub(crate) fn meaning(out: &mut [u8; ROOM], code: u64) {
+pub(crate) fn meaning(out: &mut Out, code: u64) {
     piece(
         out,
         b"content unknown|enough content to interpolate between samples|\

@@ -5,13 +5,13 @@ use crate::region_names::region_wise;
 use crate::rotation_names::rotation;
 use crate::style::Style;
 use crate::user_names::{registered, unregistered};
-use print::{ROOM, number, numbered, piece, text};
+use print::{Out, number, numbered, piece, text};
 
 // In rising order, which the names below follow.
 const KINDS: [u64; 9] = [4, 5, 45, 47, 150, 154, 155, 165, 177];
 
 // The name at a place of the list.
-fn name_at(out: &mut [u8; ROOM], place: u64) {
+fn name_at(out: &mut Out, place: u64) {
     piece(
         out,
         b"user data registered by T.35|\
@@ -31,7 +31,7 @@ fn name_at(out: &mut [u8; ROOM], place: u64) {
 // The row of a kind. A payload says how guard band types are coded, part is what follows the head of kinds 4 and 5, and a message of kind 45
 // may be set aside.
 pub(crate) fn record(
-    out: &mut [u8; ROOM],
+    out: &mut Out,
     style: Style,
     kind: u64,
     row: &[u64],
@@ -54,7 +54,7 @@ pub(crate) fn record(
 }
 
 // Where to look when a rule of the kind is broken; a kind that has no rule has no text.
-pub(crate) fn rule_hint(out: &mut [u8; ROOM], kind: u64) {
+pub(crate) fn rule_hint(out: &mut Out, kind: u64) {
     match kind {
         154 => text(
             out,
@@ -84,12 +84,12 @@ fn place(kinds: &[u64], kind: u64) -> u64 {
     i as u64
 }
 
-pub(crate) fn name(out: &mut [u8; ROOM], kind: u64) {
+pub(crate) fn name(out: &mut Out, kind: u64) {
     name_at(out, place(&KINDS, kind));
 }
 
 // What goes before a number of a list.
-fn joint(out: &mut [u8; ROOM], i: usize, last: usize) {
+fn joint(out: &mut Out, i: usize, last: usize) {
     if i == 0 {
         return;
     }
@@ -100,7 +100,7 @@ fn joint(out: &mut [u8; ROOM], i: usize, last: usize) {
     }
 }
 
-fn joined(out: &mut [u8; ROOM], kinds: &[u64]) {
+fn joined(out: &mut Out, kinds: &[u64]) {
     let mut i = 0;
     while i < kinds.len() {
         joint(out, i, kinds.len() - 1);
@@ -110,19 +110,19 @@ fn joined(out: &mut [u8; ROOM], kinds: &[u64]) {
 }
 
 // Where to look when a kind is none of these.
-pub(crate) fn number_hint(out: &mut [u8; ROOM]) {
+pub(crate) fn number_hint(out: &mut Out) {
     text(out, b"the kind number (payloadType): ");
     joined(out, &KINDS);
     text(out, b".");
 }
 
-fn line(out: &mut [u8; ROOM], kind: u64) {
+fn line(out: &mut Out, kind: u64) {
     numbered(out, b"  # ", kind);
     name(out, kind);
     text(out, b"\n");
 }
 
-fn lines(out: &mut [u8; ROOM], kinds: &[u64]) {
+fn lines(out: &mut Out, kinds: &[u64]) {
     let mut i = 0;
     while i < kinds.len() {
         line(out, kinds[i]);
@@ -131,6 +131,6 @@ fn lines(out: &mut [u8; ROOM], kinds: &[u64]) {
 }
 
 // All kinds by number and name, one a line.
-pub fn list(out: &mut [u8; ROOM]) {
+pub fn list(out: &mut Out) {
     lines(out, &KINDS);
 }

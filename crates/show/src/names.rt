@@ -2,7 +2,7 @@
 use crate::field::{NONE, Place, at, fields};
 use crate::guard::{code, meaning, reserved};
 use crate::style::{Style, apart, depth};
-use print::{ROOM, numbered, text};
+use print::{Out, numbered, text};
 
 // The fields after the extension's length, by the conditions under which the message carries them.
 pub(crate) fn carried(style: Style, outer: bool, inner: bool) -> Place {
@@ -24,7 +24,7 @@ fn placed(quincunx: u64, arrangement: u64) -> bool {
 }
 
 // A message that is set aside changes no slot, a cancel neither.
-fn arrangement_cancel(out: &mut [u8; ROOM], style: Style, row: &[u64], depth: u8, aside: bool) {
+fn arrangement_cancel(out: &mut Out, style: Style, row: &[u64], depth: u8, aside: bool) {
     let place = Place {
         from: 2,
         index: NONE,
@@ -52,7 +52,7 @@ fn arrangement_cancel(out: &mut [u8; ROOM], style: Style, row: &[u64], depth: u8
 }
 
 // What follows the cancel flag.
-fn arrangement(out: &mut [u8; ROOM], style: Style, row: &[u64], depth: u8) {
+fn arrangement(out: &mut Out, style: Style, row: &[u64], depth: u8) {
     let place = Place {
         from: 3,
         index: NONE,
@@ -97,14 +97,14 @@ fn arrangement(out: &mut [u8; ROOM], style: Style, row: &[u64], depth: u8) {
     );
 }
 
-pub(crate) fn frame_packing(out: &mut [u8; ROOM], style: Style, row: &[u64], aside: bool) {
+pub(crate) fn frame_packing(out: &mut Out, style: Style, row: &[u64], aside: bool) {
     let place = carried(style, at(row, 2) == 0, placed(at(row, 4), at(row, 3)));
     fields(out, style, row, place, b"0 fp_arrangement_id=", b"");
     arrangement_cancel(out, style, row, place.depth, aside);
     arrangement(out, style, row, place.depth);
 }
 
-pub(crate) fn orientation(out: &mut [u8; ROOM], style: Style, row: &[u64]) {
+pub(crate) fn orientation(out: &mut Out, style: Style, row: &[u64]) {
     fields(
         out,
         style,
@@ -132,7 +132,7 @@ fn guard_code(row: &[u64], payload: &[u8]) -> u64 {
 }
 
 // The type, and how it is coded where that is reserved.
-fn guard_type(out: &mut [u8; ROOM], style: Style, n: u64, code: u64) {
+fn guard_type(out: &mut Out, style: Style, n: u64, code: u64) {
     apart(out, style);
     numbered(out, b"erp_guard_band_type=#", n);
     match style {
@@ -148,7 +148,7 @@ fn guard_type(out: &mut [u8; ROOM], style: Style, n: u64, code: u64) {
     }
 }
 
-pub(crate) fn equirectangular(out: &mut [u8; ROOM], style: Style, row: &[u64], payload: &[u8]) {
+pub(crate) fn equirectangular(out: &mut Out, style: Style, row: &[u64], payload: &[u8]) {
     let place = uncancelled(style, row, 3);
     fields(
         out,
@@ -182,7 +182,7 @@ pub(crate) fn equirectangular(out: &mut [u8; ROOM], style: Style, row: &[u64], p
     );
 }
 
-pub(crate) fn alpha(out: &mut [u8; ROOM], style: Style, row: &[u64]) {
+pub(crate) fn alpha(out: &mut Out, style: Style, row: &[u64]) {
     fields(
         out,
         style,

@@ -1,6 +1,6 @@
 // The number that a caller gets: in a word or two, in a sentence, and where to look.
 use crate::kind;
-use print::{ROOM, byte, number, piece, text};
+use print::{Out, byte, number, piece, text};
 
 // The place of a number's text below: 0 to 10 are their own, and 20 comes after them.
 fn place(n: u32) -> u64 {
@@ -8,7 +8,7 @@ fn place(n: u32) -> u64 {
 }
 
 // Of a read or a feed.
-pub(crate) fn read(out: &mut [u8; ROOM], n: u32) {
+pub(crate) fn read(out: &mut Out, n: u32) {
     number(out, n as u64);
     byte(out, b' ');
     piece(
@@ -20,7 +20,7 @@ pub(crate) fn read(out: &mut [u8; ROOM], n: u32) {
 }
 
 // Of any other call.
-pub fn called(out: &mut [u8; ROOM], n: u32) {
+pub fn called(out: &mut Out, n: u32) {
     if n == 0 {
         text(out, b"0 done");
     } else {
@@ -28,7 +28,7 @@ pub fn called(out: &mut [u8; ROOM], n: u32) {
     }
 }
 
-pub fn sentence(out: &mut [u8; ROOM], n: u32) {
+pub fn sentence(out: &mut Out, n: u32) {
     piece(
         out,
         b"Taken: the payload is a message within the rules.|\
@@ -48,7 +48,7 @@ pub fn sentence(out: &mut [u8; ROOM], n: u32) {
 }
 
 // Where to look when a payload of the kind is not taken.
-pub(crate) fn hint(out: &mut [u8; ROOM], n: u32, kind: u64) {
+pub(crate) fn hint(out: &mut Out, n: u32, kind: u64) {
     match n {
         1 => kind::number_hint(out),
         2 => text(

@@ -6,10 +6,10 @@ use crate::guard::{code, meaning, reserved};
 use crate::names::uncancelled;
 use crate::style::Style;
 use kind_region_wise::MOST;
-use print::{ROOM, byte, number, numbered, piece, text};
+use print::{Out, byte, number, numbered, piece, text};
 
 // A region: its index, where its numbers begin in the row, and where its bytes begin in the payload.
-#[derive(Drop)]
+#[derive(Clone, Copy)]
 struct Region {
     index: u64,
     from: usize,
@@ -17,7 +17,7 @@ struct Region {
 }
 
 // Width and height, and left and top, which the row has the other way round.
-fn extent(out: &mut [u8; ROOM], row: &[u64], from: usize)
+fn extent(out: &mut Out, row: &[u64], from: usize)
     requires { from ≤ 65536 }
 {
     number(out, at(row, from));
@@ -29,7 +29,7 @@ fn extent(out: &mut [u8; ROOM], row: &[u64], from: usize)
     number(out, at(row, from + 2));
 }
 
-fn transform(out: &mut [u8; ROOM], n: u64) {
+fn transform(out: &mut Out, n: u64) {
     piece(
         out,
         b", no transform|, mirror|, rotate 180|, rotate 180 and mirror|, rotate 90 and mirror|, rotate 90|, rotate 270 and mirror|, rotate 270",
@@ -38,7 +38,7 @@ fn transform(out: &mut [u8; ROOM], n: u64) {
 }
 
 // An edge's guard band in words.
-fn band(out: &mut [u8; ROOM], edge: usize, width: u64, n: u64, code: u64) {
+fn band(out: &mut Out, edge: usize, width: u64, n: u64, code: u64) {
     piece(
         out,
         b"\n    guard bands: left |, right |, top |, bottom ",
@@ -50,7 +50,7 @@ fn band(out: &mut [u8; ROOM], edge: usize, width: u64, n: u64, code: u64) {
     text(out, b")");
 }
 
-fn type_name(out: &mut [u8; ROOM], index: u64, edge: usize) {
+fn type_name(out: &mut Out, index: u64, edge: usize) {
     text(out, b" rwp_guard_band_type[");
     number(out, index);
     text(out, b"][");
@@ -58,7 +58,7 @@ fn type_name(out: &mut [u8; ROOM], index: u64, edge: usize) {
 }
 
 // An edge's type as a field, and how it is coded where that is reserved.
-fn edge_type(out: &mut [u8; ROOM], index: u64, edge: usize, n: u64, code: u64) {
+fn edge_type(out: &mut Out, index: u64, edge: usize, n: u64, code: u64) {
     type_name(out, index, edge);
     text(out, b"]=");
     number(out, n);
@@ -81,14 +81,7 @@ fn edge_code(row: &[u64], region: Region, payload: &[u8], edge: usize, n: u64) -
 }
 
 // The guard band at an edge: 0 is left, 1 right, 2 top, 3 bottom.
-fn guard(
-    out: &mut [u8; ROOM],
-    style: Style,
-    row: &[u64],
-    region: Region,
-    payload: &[u8],
-    edge: usize,
-)
+fn guard(out: &mut Out, style: Style, row: &[u64], region: Region, payload: &[u8], edge: usize)
     requires { (region.from ≤ 1024) × (region.byte ≤ 1024) × (edge < 4) }
 {
     let from = region.from;
@@ -100,7 +93,7 @@ fn guard(
     }
 }
 
-fn guards(out: &mut [u8; ROOM], style: Style, row: &[u64], region: Region, payload: &[u8])
+fn guards(out: &mut Out, style: Style, row: &[u64], region: Region, payload: &[u8])
     requires { (region.from ≤ 1024) × (region.byte ≤ 1024) }
 {
     guard(out, style, row, region, payload, 0);
@@ -110,7 +103,7 @@ fn guards(out: &mut [u8; ROOM], style: Style, row: &[u64], region: Region, paylo
 }
 
 // A region's fields, on a line of their own.
-fn listed(out: &mut [u8; ROOM], row: &[u64], region: Region) {
+fn listed(out: &mut Out, row: &[u64], region: Region) {
     text(out, b"\n   ");
     let place = Place {
         from: region.from,
@@ -142,7 +135,7 @@ fn listed(out: &mut [u8; ROOM], row: &[u64], region: Region) {
 }
 
 // A region as an engineer would write it.
-fn written(out: &mut [u8; ROOM], row: &[u64], region: Region)
+fn written(out: &mut Out, row: &[u64], region: Region)
     requires { region.from ≤ 1024 }
 {
     let from = region.from;
@@ -155,7 +148,7 @@ fn written(out: &mut [u8; ROOM], row: &[u64], region: Region)
     transform(out, at(row, from));
 }
 
-fn shown(out: &mut [u8; ROOM], style: Style, row: &[u64], region: Region, payload: &[u8])
+fn shown(out: &mut Out, style: Style, row: &[u64], region: Region, payload: &[u8])
     requires { (region.from ≤ 1024) × (region.byte ≤ 1024) }
 {
     let from = region.from;
@@ -185,7 +178,7 @@ fn size(flag: u64) -> usize
     if flag == 1 { 31 } else { 25 }
 }
 
-fn regions(out: &mut [u8; ROOM], style: Style, row: &[u64], payload: &[u8], count: u64) {
+fn regions(out: &mut Out, style: Style, row: &[u64], payload: &[u8], count: u64) {
     let mut i: usize = 0;
     let mut byte = 14;
     while i < MOST {
@@ -200,7 +193,7 @@ fn regions(out: &mut [u8; ROOM], style: Style, row: &[u64], payload: &[u8], coun
     }
 }
 
-pub(crate) fn region_wise(out: &mut [u8; ROOM], style: Style, row: &[u64], payload: &[u8]) {
+pub(crate) fn region_wise(out: &mut Out, style: Style, row: &[u64], payload: &[u8]) {
     fields(
         out,
         style,

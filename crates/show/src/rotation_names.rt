@@ -5,10 +5,10 @@ use crate::field::{at, fields};
 use crate::fraction::decimal;
 use crate::names::uncancelled;
 use crate::style::{Style, apart};
-use print::{ROOM, bits, number, text};
+use print::{Out, bits, number, text};
 
 // The sign of a number of 32 bits in two's complement.
-fn minus(out: &mut [u8; ROOM], coded: u64) {
+fn minus(out: &mut Out, coded: u64) {
     if 2147483648 <= coded {
         text(out, b"-");
     }
@@ -26,7 +26,7 @@ fn magnitude(coded: u64) -> u64
 }
 
 // The angle at a place of the row: the coded number, the degrees that it makes, and, three places on in the row, the 64 bits of their float.
-fn angle(out: &mut [u8; ROOM], style: Style, row: &[u64], i: usize, name: &[u8])
+fn angle(out: &mut Out, style: Style, row: &[u64], i: usize, name: &[u8])
     requires { i ≤ 256 }
 {
     let coded = at(row, i);
@@ -48,7 +48,7 @@ fn angle(out: &mut [u8; ROOM], style: Style, row: &[u64], i: usize, name: &[u8])
     bits(out, float);
 }
 
-pub(crate) fn rotation(out: &mut [u8; ROOM], style: Style, row: &[u64]) {
+pub(crate) fn rotation(out: &mut Out, style: Style, row: &[u64]) {
     let place = uncancelled(style, row, 1);
     fields(
         out,

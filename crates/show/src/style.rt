@@ -1,7 +1,7 @@
 // How fields are shown.
-use print::{ROOM, text};
+use print::{Out, text};
 
-#[derive(Drop)]
+#[derive(Clone, Copy)]
 pub enum Style {
     // Every field of a record, in one line.
     Line,
@@ -10,7 +10,7 @@ pub enum Style {
 }
 
 // What goes before the space that stands before a field.
-pub(crate) fn margin(out: &mut [u8; ROOM], style: Style) {
+pub(crate) fn margin(out: &mut Out, style: Style) {
     match style {
         Style::Line => {}
         Style::Explained => text(out, b"\n "),
@@ -18,7 +18,7 @@ pub(crate) fn margin(out: &mut [u8; ROOM], style: Style) {
 }
 
 // What goes before a field.
-pub(crate) fn apart(out: &mut [u8; ROOM], style: Style) {
+pub(crate) fn apart(out: &mut Out, style: Style) {
     margin(out, style);
     text(out, b" ");
 }

@@ -1,10 +1,10 @@
 // The rows of a region table, by the names of 8.15.5.2.
 use crate::field::{NONE, Place, fields};
 use crate::style::Style;
-use print::{ROOM, numbered};
+use print::{Out, numbered};
 
 // A row on a line of its own.
-fn line(out: &mut [u8; ROOM], rows: &[u64], i: u32) {
+fn line(out: &mut Out, rows: &[u64], i: u32) {
     numbered(out, b"\n  row=#", i as u64);
     let place = Place {
         from: 9 * (i as usize),
@@ -30,7 +30,7 @@ fn line(out: &mut [u8; ROOM], rows: &[u64], i: u32) {
 }
 
 // As many rows as count says.
-pub fn table(out: &mut [u8; ROOM], rows: &[u64], count: u32) {
+pub fn table(out: &mut Out, rows: &[u64], count: u32) {
     let mut i: u32 = 0;
     while i < count {
         line(out, rows, i);

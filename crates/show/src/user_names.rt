@@ -2,10 +2,10 @@
 use crate::field::{at, fields};
 use crate::names::carried;
 use crate::style::{Style, apart};
-use print::{ROOM, bytes, printable, text};
+use print::{Out, bytes, printable, text};
 
 // In hex and, where it is explained, as text.
-fn rest(out: &mut [u8; ROOM], style: Style, name: &[u8], part: &[u8]) {
+fn rest(out: &mut Out, style: Style, name: &[u8], part: &[u8]) {
     apart(out, style);
     text(out, name);
     bytes(out, part);
@@ -16,7 +16,7 @@ fn rest(out: &mut [u8; ROOM], style: Style, name: &[u8], part: &[u8]) {
     }
 }
 
-pub(crate) fn registered(out: &mut [u8; ROOM], style: Style, row: &[u64], part: &[u8]) {
+pub(crate) fn registered(out: &mut Out, style: Style, row: &[u64], part: &[u8]) {
     fields(
         out,
         style,
@@ -42,7 +42,7 @@ fn identifier(row: &[u64]) -> [u8; UUID] {
     r
 }
 
-pub(crate) fn unregistered(out: &mut [u8; ROOM], style: Style, row: &[u64], part: &[u8]) {
+pub(crate) fn unregistered(out: &mut Out, style: Style, row: &[u64], part: &[u8]) {
     apart(out, style);
     text(out, b"uuid_iso_iec_11578=");
     let uuid = identifier(row);
