@@ -7,7 +7,7 @@ use crate::read::shown;
 use crate::status::status;
 use crate::table::table;
 use lent::front;
-use print::{ROOM, text};
+use print::{Out, text};
 use script::call::Call;
 use script::line::BYTES;
 use show::number::called;
@@ -15,19 +15,19 @@ use show::style::Style;
 use slots::{Called, Slots};
 
 // A call that answers a number only.
-fn done(out: &mut [u8; ROOM], r: Called) -> Slots
+fn done(out: &mut Out, r: Called) -> Slots
     ensures { result ≡ r.slots }
 {
     let answer = r.answer;
     let n = answer.number();
     called(out, n);
-    status(n);
+    status(out, n);
     text(out, b"\n");
     r.slots
 }
 
 // The calls that look at no slot leave them all, and are not answered here.
-pub fn answer(out: &mut [u8; ROOM], slots: Slots, call: Call, bytes: &[u8; BYTES]) -> Slots
+pub fn answer(out: &mut Out, slots: Slots, call: Call, bytes: &[u8; BYTES]) -> Slots
     ensures { result ≡ slots_after call slots bytes.now }
 {
     match call {

@@ -1,10 +1,10 @@
 // What goes before an answer: the call itself.
-use print::{ROOM, text};
+use print::{Out, text};
 use script::call::Call;
 use script::input::{Input, LINE};
 use script::line::said;
 
-pub fn echo(out: &mut [u8; ROOM], call: Call, input: Input, line: &[u8; LINE]) {
+pub fn echo(out: &mut Out, call: Call, input: Input, line: &[u8; LINE]) {
     match call {
         Call::Help => {}
         Call::Nothing => {}

@@ -1,14 +1,14 @@
 // What the tool does, for someone with nobody to ask.
-use print::{ROOM, numbered, text};
+use print::{Out, numbered, text};
 use show::kind::list;
 use show::number::sentence;
 
-fn meaning(out: &mut [u8; ROOM], n: u32) {
+fn meaning(out: &mut Out, n: u32) {
     numbered(out, b"\n  #  ", n as u64);
     sentence(out, n);
 }
 
-fn meanings(out: &mut [u8; ROOM]) {
+fn meanings(out: &mut Out) {
     let mut n: u32 = 0;
     while n < 11 {
         meaning(out, n);
@@ -17,7 +17,7 @@ fn meanings(out: &mut [u8; ROOM]) {
     meaning(out, 20);
 }
 
-fn usage(out: &mut [u8; ROOM]) {
+fn usage(out: &mut Out) {
     text(
         out,
         b"Bruskelde reads SEI messages (H.274) and keeps what eight slots hold.\n\n\
@@ -33,7 +33,7 @@ fn usage(out: &mut [u8; ROOM]) {
     );
 }
 
-fn calls(out: &mut [u8; ROOM]) {
+fn calls(out: &mut Out) {
     text(
         out,
         b"Calls of a script, one a line; # starts a comment:\n\
@@ -52,7 +52,7 @@ fn calls(out: &mut [u8; ROOM]) {
     );
 }
 
-pub fn help(out: &mut [u8; ROOM]) {
+pub fn help(out: &mut Out) {
     usage(out);
     calls(out);
     text(out, b"Kinds (payloadType):\n");

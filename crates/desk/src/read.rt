@@ -2,7 +2,7 @@
 use crate::status::status;
 use answers::{Answer, Rest};
 use lent::front;
-use print::ROOM;
+use print::Out;
 use reader::payload;
 use reader::user::user_part;
 use record_row::record::REGION_WISE_FIELDS;
@@ -21,7 +21,7 @@ fn part(answer: Answer, p: Payload, bytes: &[u8]) -> &[u8] {
 }
 
 // What a payload was answered.
-pub fn shown(out: &mut [u8; ROOM], style: Style, answer: Answer, p: Payload, bytes: &[u8]) {
+pub fn shown(out: &mut Out, style: Style, answer: Answer, p: Payload, bytes: &[u8]) {
     let outcome = answer.outcome;
     let n = outcome.number();
     // kind 155 has the longest row; of a refusal, 8 too, no field is shown
@@ -35,10 +35,10 @@ pub fn shown(out: &mut [u8; ROOM], style: Style, answer: Answer, p: Payload, byt
     };
     let payload = front(bytes, p.size as usize);
     show::answer::answer(out, style, asked, &row, payload, part);
-    status(n);
+    status(out, n);
 }
 
-pub fn read(out: &mut [u8; ROOM], style: Style, p: Payload, lent: &[u8; BYTES]) {
+pub fn read(out: &mut Out, style: Style, p: Payload, lent: &[u8; BYTES]) {
     let bytes = front(lent, p.count);
     shown(out, style, payload::read(p.kind, p.size, bytes), p, bytes);
 }

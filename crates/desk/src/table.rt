@@ -4,7 +4,7 @@ ghost use Rattle.kind_region_wise.specs.RegionWise.{most};
 
 use crate::status::status;
 use kind_region_wise::MOST;
-use print::{ROOM, numbered, text};
+use print::{Out, numbered, text};
 use region_table::rows::Tabled;
 use show::number::called;
 use slots::Slots;
@@ -21,7 +21,7 @@ fn lent(n: u64) -> usize
     NUMBERS
 }
 
-fn shown(out: &mut [u8; ROOM], r: Tabled, rows: &[u64; NUMBERS]) {
+fn shown(out: &mut Out, r: Tabled, rows: &[u64; NUMBERS]) {
     match r {
         Tabled::Rows(count) => {
             numbered(out, b"0 done rows=#", count as u64);
@@ -30,13 +30,13 @@ fn shown(out: &mut [u8; ROOM], r: Tabled, rows: &[u64; NUMBERS]) {
         Tabled::Refused(why) => {
             let n = why.number();
             called(out, n);
-            status(n);
+            status(out, n);
         }
     }
     text(out, b"\n");
 }
 
-pub fn table(out: &mut [u8; ROOM], slots: Slots, slot: u64, n: u64) {
+pub fn table(out: &mut Out, slots: Slots, slot: u64, n: u64) {
     let mut rows = [0u64; NUMBERS];
     let start = 0;
     let end = lent(n);
