@@ -1,7 +1,7 @@
 /*
  * Bruskelde: a reader of video side messages (SEI, H.274), called from C.
  *
- * Link with the archive that `rt staticlib host` writes, target/staticlib/libhost.a.
+ * Link with the archive that `rt lib`, run in crates/host, writes: crates/host/out/libhost.a.
  *
  * The functions keep nothing between calls, no pointer either, allocate nothing and may be called from any thread. They take any kind,
  * any size, any bytes, and slots that hold any bytes. What the caller has to see to is only what C always asks of it: that `bytes`, `row`
