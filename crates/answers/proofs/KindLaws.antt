@@ -12,7 +12,7 @@ use borrow.Author.Tests.{eqb-true}
 use denote.Enum.Declared.{tag_of}
 use types.Run.{OneOf, miss}
 use lib.Dec.{eqb}
-use Rattle.std.specs.Prelude.{if◌then◌else◌}
+use Rattle.std.specs.Prelude.{Option, Some, None, if◌then◌else◌}
 use Rattle.bits.specs.declared.refusal.Refusal.{Refusal}
 use Rattle.format.specs.Faithful.{Faithful}
 use Rattle.format.specs.Whole.{refused}
@@ -26,12 +26,9 @@ use Rattle.kind_depth.proofs.Faithful as depth
 use Rattle.kind_user_data.proofs.Faithful as user-data
 use Rattle.answers.specs.Listed.{Record, listing, nothing, form, number, Unheld, listed_kinds, named_in, named}
 use Rattle.answers.specs.Answer.{message_of, made, answer_for, refused_as}
-use Rattle.answers.specs.declared.Rest.TheVariants.{Nowhere}
 use Rattle.answers.specs.contracts.kind.Kind.{the_type}
 use Rattle.answers.specs.declared.kind.Kind.{Kind}
 use Rattle.answers.specs.declared.kind.Kind.TheVariants as kinds
-use Rattle.answers.specs.declared.kind.Named.{Named}
-use Rattle.answers.specs.declared.kind.Named.TheVariants.{Listed, Unlisted}
 use Rattle.answers.specs.declared.Answer.{Answer}
 use Rattle.answers.specs.declared.Outcome.{Outcome}
 use Rattle.answers.specs.declared.kind.LastingMessage.TheVariants as lasting
@@ -42,7 +39,7 @@ use Rattle.answers.specs.declared.kind.Message.TheVariants.{Nothing, Lasting, Pa
 
 -- ---- a number names a kind exactly where it is the kind's own
 
-pub named-of : (k : Kind) → named (number k) ≡ Listed k
+pub named-of : (k : Kind) → named (number k) ≡ Some k
 unfolding named
 named-of kinds.FramePacking = refl
 named-of kinds.Orientation = refl
@@ -54,37 +51,37 @@ named-of kinds.Depth = refl
 named-of kinds.Registered = refl
 named-of kinds.Unregistered = refl
 
-same_kind : {k j : Kind} → Listed k ≡ Listed j → k ≡ j
+same_kind : {k j : Kind} → Some k ≡ Some j → k ≡ j
 same_kind e = cc
 
 pub one-kind : (k j : Kind) → number k ≡ number j → k ≡ j
 one-kind k j e = same_kind (sym (named-of k) ∙ ap named e ∙ named-of j)
 
-listed_in : (ks : List Kind) (n : ℕ) {k : Kind} → named_in ks n ≡ Listed k → n ≡ number k
+listed_in : (ks : List Kind) (n : ℕ) {k : Kind} → named_in ks n ≡ Some k → n ≡ number k
 listed_in [] n e = let z : ◌≡◌ {A = ℕ} 0 1 = cc in absurd (omega arith)
 listed_in (j ∷ ks) n {k} e = go (eqb n (number j)) refl (listed_in ks n) e
   where
-    go : (b : Bool) → eqb n (number j) ≡ b → (named_in ks n ≡ Listed k → n ≡ number k) → (if b then Listed j else named_in ks n) ≡ Listed k → n ≡ number k
+    go : (b : Bool) → eqb n (number j) ≡ b → (named_in ks n ≡ Some k → n ≡ number k) → (if b then Some j else named_in ks n) ≡ Some k → n ≡ number k
     go true h later e = eqb-true n (number j) h ∙ ap number (same_kind e)
     go false h later e = later e
 
 module _ (n : ℕ) where
-  pub named-iff : (k : Kind) → (named n ≡ Listed k) ↔ (n ≡ number k)
+  pub named-iff : (k : Kind) → (named n ≡ Some k) ↔ (n ≡ number k)
   unfolding named
   named-iff k = (listed_in listed_kinds n, λ e. ap named e ∙ named-of k)
 
-  pub unnamed-iff : (named n ≡ Unlisted) ↔ ((k : Kind) → n ≢ number k)
+  pub unnamed-iff : (named n ≡ None) ↔ ((k : Kind) → n ≢ number k)
   unnamed-iff = (apart, none)
     where
-      apart : named n ≡ Unlisted → (k : Kind) → n ≢ number k
-      apart e k h = let l : Listed k ≡ Unlisted = sym ((named-iff k).1 h) ∙ e in let z : ◌≡◌ {A = ℕ} 0 1 = cc in omega arith
+      apart : named n ≡ None → (k : Kind) → n ≢ number k
+      apart e k h = let l : Some k ≡ None = sym ((named-iff k).1 h) ∙ e in let z : ◌≡◌ {A = ℕ} 0 1 = cc in omega arith
 
-      none : ((k : Kind) → n ≢ number k) → named n ≡ Unlisted
+      none : ((k : Kind) → n ≢ number k) → named n ≡ None
       none h = go (named n) refl
         where
-          go : (x : Named) → named n ≡ x → x ≡ Unlisted
-          go Unlisted e = refl
-          go (Listed k) e = absurd (h k ((named-iff k).0 e))
+          go : (x : Option Kind) → named n ≡ x → x ≡ None
+          go None e = refl
+          go (Some k) e = absurd (h k ((named-iff k).0 e))
 
 -- ---- an answer is of one kind, with one record
 
@@ -174,7 +171,7 @@ unheld-passes kinds.Unregistered a u = (passing.Unregistered, refl)
 pub data RestOf : Kind → Type 0 where
   registered : RestOf kinds.Registered
   unregistered : RestOf kinds.Unregistered
-  neither : {k : Kind} → ((a : Record k) → (listing k).rest a ≡ Nowhere) → RestOf k
+  neither : {k : Kind} → ((a : Record k) → (listing k).rest a ≡ None) → RestOf k
 
 pub rest-of : (k : Kind) → RestOf k
 rest-of kinds.FramePacking = neither (λ a. refl)

@@ -1,8 +1,7 @@
 -- What the code's answers mean: this paper's number and values for each case.
-use Rattle.std.specs.Prelude.{ℕ}
+use Rattle.std.specs.Prelude.{ℕ, Option, None, Ok, Err}
 use Rattle.bits.specs.Refusals.{refusal_number, by_kind}
-use Rattle.bits.specs.declared.ending.Ending.{Ending}
-use Rattle.bits.specs.declared.ending.Ending.TheVariants as ending
+use Rattle.bits.specs.Tail.{Ending}
 use Rattle.bits.specs.declared.refusal.Refusal.{Refusal}
 use Rattle.format.specs.Whole as reading
 use Rattle.answers.specs.Listed.{Record, listing, nothing, zeros}
@@ -14,8 +13,6 @@ use Rattle.answers.specs.declared.Outcome.{Outcome}
 use Rattle.answers.specs.declared.Outcome.TheVariants.{Taken, SetAside, Refused}
 use Rattle.answers.specs.declared.kind.Message.{Message}
 use Rattle.answers.specs.declared.kind.Message.TheVariants.{Nothing}
-use Rattle.answers.specs.declared.Rest.{Rest}
-use Rattle.answers.specs.declared.Rest.TheVariants.{Nowhere}
 
 abbrev pub outcome_number : Outcome → ℕ
 outcome_number Taken = 0
@@ -34,14 +31,14 @@ abbrev pub answer_of : Brief → Beside → Answer
 answer_of b s = record { outcome = b.outcome; message = b.message; extension = b.extension; rest = b.rest; beside = s }
 
 -- only what is taken has a rest
-abbrev pub rest_for : Outcome → Rest → Rest
+abbrev pub rest_for : Outcome → Option ℕ → Option ℕ
 rest_for Taken x = x
-rest_for SetAside x = Nowhere
-rest_for (Refused r) x = Nowhere
+rest_for SetAside x = None
+rest_for (Refused r) x = None
 
 -- with no record beside the message, and no rest
 abbrev pub plain : Outcome → Message → ℕ → Answer
-plain o m e = record { outcome = o; message = m; extension = e; rest = Nowhere; beside = nothing }
+plain o m e = record { outcome = o; message = m; extension = e; rest = None; beside = nothing }
 
 abbrev pub message_of : (k : Kind) → Record k → Message
 message_of k a = (listing k).message a
@@ -64,8 +61,8 @@ refused_as k r = plain (Refused r) (zero_message k) 0
 
 -- and of a message with no record beside it, by how its payload ends
 abbrev pub finished : Kind → Outcome → Message → Ending → Answer
-finished k o m (ending.Extension e) = plain o m e
-finished k o m (ending.Refused r) = refused_as k r
+finished k o m (Ok e) = plain o m e
+finished k o m (Err r) = refused_as k r
 
 -- a kind that is none of those listed has no fields
 abbrev pub unknown : Answer

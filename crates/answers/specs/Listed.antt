@@ -1,5 +1,5 @@
 -- The kinds of RULES 4: number, record, how a payload of the kind is read as a whole, and what an answer has of its record.
-use Rattle.std.specs.Prelude.{ℕ, ◌≡◌, Bool, true, false, ◌||◌, List, [], ◌∷◌, eqb, if◌then◌else◌}
+use Rattle.std.specs.Prelude.{ℕ, ◌≡◌, Bool, true, false, ◌||◌, List, [], ◌∷◌, eqb, Option, Some, None, Result, Ok, Err, if◌then◌else◌}
 use Rattle.bits.specs.Bits.{bits_of}
 use Rattle.format.specs.Format.{Format}
 use Rattle.format.specs.Format as format
@@ -26,15 +26,13 @@ use Rattle.kind_user_data.specs.declared.unregistered.Unregistered.{Unregistered
 use Rattle.kind_user_data.specs.Unregistered as unregistered
 use Rattle.answers.specs.declared.kind.Kind.{Kind}
 use Rattle.answers.specs.declared.kind.Kind.TheVariants as kinds
-use Rattle.answers.specs.declared.kind.Named.{Named}
-use Rattle.answers.specs.declared.kind.Named.TheVariants.{Listed, Unlisted}
+use Rattle.bits.specs.Refusals.{by_kind}
+use Rattle.bits.specs.declared.refusal.Refusal.{Refusal}
 use Rattle.answers.specs.declared.Beside.{Beside}
 use Rattle.answers.specs.declared.kind.LastingMessage.TheVariants as lasting
 use Rattle.answers.specs.declared.kind.PassingMessage.TheVariants as passing
 use Rattle.answers.specs.declared.kind.Message.{Message}
 use Rattle.answers.specs.declared.kind.Message.TheVariants.{Lasting, Passing}
-use Rattle.answers.specs.declared.Rest.{Rest}
-use Rattle.answers.specs.declared.Rest.TheVariants.{From, Nowhere}
 
 abbrev pub Record : Kind → Type 0
 Record kinds.FramePacking = FramePacking
@@ -55,7 +53,7 @@ pub record Listing (A : Type 0) : Type 0 where
   pub zero : A
   pub message : A → Message
   pub beside : A → Beside
-  pub rest : A → Rest
+  pub rest : A → Option ℕ
 
 -- nothing stands beside the message
 abbrev pub nothing : Beside
@@ -68,7 +66,7 @@ never a = false
 -- most kinds: a tail can follow, nothing stands beside the message, and the payload has no rest
 abbrev pub plainly : {A : Type 0} → ℕ → Format A A → (A → Bool) → A → (A → Message) → Listing A
 plainly n table aside zero m =
-    record { number = n; form = record { table = table; tailed = true; aside = aside }; zero = zero; message = m; beside = λ a. nothing; rest = λ a. Nowhere }
+    record { number = n; form = record { table = table; tailed = true; aside = aside }; zero = zero; message = m; beside = λ a. nothing; rest = λ a. None }
 
 -- kinds 4 and 5 run to the end of the payload and have no tail; only messages of kind 45 are set aside
 abbrev pub listing : (k : Kind) → Listing (Record k)
@@ -83,7 +81,7 @@ listing kinds.RegionWise =
       zero = nothing.region_wise;
       message = λ a. Lasting lasting.RegionWise;
       beside = λ a. record { region_wise = a; depth = nothing.depth; unregistered = nothing.unregistered };
-      rest = λ a. Nowhere;
+      rest = λ a. None;
     }
 listing kinds.Alpha = plainly 165 alpha.alpha never (format.zeros alpha.table) (λ a. Passing (passing.Alpha a))
 listing kinds.Depth =
@@ -93,7 +91,7 @@ listing kinds.Depth =
       zero = nothing.depth;
       message = λ a. Passing passing.Depth;
       beside = λ a. record { region_wise = nothing.region_wise; depth = a; unregistered = nothing.unregistered };
-      rest = λ a. Nowhere;
+      rest = λ a. None;
     }
 listing kinds.Registered =
     record {
@@ -102,7 +100,7 @@ listing kinds.Registered =
       zero = format.zeros registered.table;
       message = λ a. Passing (passing.Registered a);
       beside = λ a. nothing;
-      rest = λ a. From (registered.head_bytes a);
+      rest = λ a. Some (registered.head_bytes a);
     }
 listing kinds.Unregistered =
     record {
@@ -111,7 +109,7 @@ listing kinds.Unregistered =
       zero = nothing.unregistered;
       message = λ a. Passing passing.Unregistered;
       beside = λ a. record { region_wise = nothing.region_wise; depth = nothing.depth; unregistered = a };
-      rest = λ a. From 16;
+      rest = λ a. Some 16;
     }
 
 abbrev pub number : Kind → ℕ
@@ -148,10 +146,15 @@ listed_kinds =
     ∷ []
 
 -- the first of these kinds that has the number n
-abbrev pub named_in : List Kind → ℕ → Named
-named_in [] n = Unlisted
-named_in (k ∷ ks) n = if eqb n (number k) then Listed k else named_in ks n
+abbrev pub named_in : List Kind → ℕ → Option Kind
+named_in [] n = None
+named_in (k ∷ ks) n = if eqb n (number k) then Some k else named_in ks n
 
 -- the kind that a number names, if it names one
-unfoldable pub named : ℕ → Named
+unfoldable pub named : ℕ → Option Kind
 named n = named_in listed_kinds n
+
+-- and 1 where it names none
+abbrev pub kind_by : Option Kind → Result Kind Refusal
+kind_by (Some k) = Ok k
+kind_by None = Err by_kind

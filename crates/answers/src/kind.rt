@@ -1,8 +1,9 @@
 // The kinds, the numbers that name them, and the messages of each.
 ghost use Rattle.std.specs.Prelude.{◌≡◌};
-ghost use Rattle.answers.specs.Listed.{named};
+ghost use Rattle.answers.specs.Listed.{named, kind_by};
 ghost use Rattle.answers.specs.Answer.{zero_message};
 
+use bits::refusal::Refusal;
 use kind_alpha::Alpha;
 use kind_equirectangular::Equirectangular;
 use kind_frame_packing::FramePacking;
@@ -10,7 +11,7 @@ use kind_orientation::Orientation;
 use kind_rotation::Rotation;
 use kind_user_data::registered::Registered;
 
-#[derive(Clone, Copy)]
+#[derive(Clone, Copy, Debug, PartialEq, Eq)]
 pub enum Kind {
     FramePacking,
     Orientation,
@@ -23,45 +24,26 @@ pub enum Kind {
     Unregistered,
 }
 
-// The kind that a number names, if it names one.
-#[derive(Clone, Copy)]
-pub enum Named {
-    Listed(Kind),
-    Unlisted,
-}
+// The kind that a number names; refusal 1 where it names none.
+impl TryFrom<u64> for Kind {
+    type Error = Refusal;
 
-impl Named {
-    pub fn by(number: u64) -> Named
-        ensures { result ≡ named number }
-    {
-        if number == 45 {
-            return Named::Listed(Kind::FramePacking);
+    ghost try_from_gives = { λ number r. r ≡ kind_by (named number) };
+
+    #[tactic(auto, unfolding(crate::specs::Listed::named))]
+    fn try_from(number: u64) -> Result<Kind, Refusal> {
+        match number {
+            45 => Ok(Kind::FramePacking),
+            47 => Ok(Kind::Orientation),
+            150 => Ok(Kind::Equirectangular),
+            154 => Ok(Kind::Rotation),
+            155 => Ok(Kind::RegionWise),
+            165 => Ok(Kind::Alpha),
+            177 => Ok(Kind::Depth),
+            4 => Ok(Kind::Registered),
+            5 => Ok(Kind::Unregistered),
+            _ => Err(Refusal::Kind),
         }
-        if number == 47 {
-            return Named::Listed(Kind::Orientation);
-        }
-        if number == 150 {
-            return Named::Listed(Kind::Equirectangular);
-        }
-        if number == 154 {
-            return Named::Listed(Kind::Rotation);
-        }
-        if number == 155 {
-            return Named::Listed(Kind::RegionWise);
-        }
-        if number == 165 {
-            return Named::Listed(Kind::Alpha);
-        }
-        if number == 177 {
-            return Named::Listed(Kind::Depth);
-        }
-        if number == 4 {
-            return Named::Listed(Kind::Registered);
-        }
-        if number == 5 {
-            return Named::Listed(Kind::Unregistered);
-        }
-        Named::Unlisted
     }
 }
 

@@ -8,14 +8,13 @@ ghost use Rattle.answers.specs.Listed.{nothing};
 ghost use Rattle.answers.specs.Answer.{outcome_number, brief_of, answer_of, plain, made, finished, refused_as, unknown};
 
 use crate::kind::{Kind, Message, PassingMessage};
-use bits::ending::Ending;
 use bits::refusal::Refusal;
 use kind_depth::Depth;
 use kind_region_wise::RegionWise;
 use kind_user_data::registered::Registered;
 use kind_user_data::unregistered::Unregistered;
 
-#[derive(Clone, Copy)]
+#[derive(Clone, Copy, Debug, PartialEq, Eq)]
 pub enum Outcome {
     Taken,
     SetAside,
@@ -33,13 +32,6 @@ impl Outcome {
             Outcome::Refused(why) => why.number(),
         }
     }
-}
-
-// The byte at which the rest of a payload of kind 4 or 5 begins.
-#[derive(Clone, Copy)]
-pub enum Rest {
-    From(usize),
-    Nowhere,
 }
 
 // The records that hold an array, each zeros where the message is of another kind.
@@ -69,7 +61,8 @@ pub struct Brief {
     pub outcome: Outcome,
     pub message: Message,
     pub extension: u32,
-    pub rest: Rest,
+    // The byte at which the rest of a payload of kind 4 or 5 begins.
+    pub rest: Option<usize>,
 }
 
 impl Brief {
@@ -81,7 +74,7 @@ impl Brief {
             outcome,
             message,
             extension,
-            rest: Rest::Nowhere,
+            rest: None,
         }
     }
 
@@ -100,12 +93,17 @@ impl Brief {
     }
 
     // By how the payload ends: the message with that outcome, or the refusal.
-    pub fn finished(kind: Kind, outcome: Outcome, message: Message, end: Ending) -> Brief
+    pub fn finished(
+        kind: Kind,
+        outcome: Outcome,
+        message: Message,
+        end: Result<u32, Refusal>,
+    ) -> Brief
         ensures { result ≡ brief_of (finished kind outcome message end) }
     {
         match end {
-            Ending::Extension(e) => return Brief::plain(outcome, message, e),
-            Ending::Refused(why) => return Brief::refused(kind, why),
+            Ok(e) => Brief::plain(outcome, message, e),
+            Err(why) => Brief::refused(kind, why),
         }
     }
 
@@ -113,12 +111,11 @@ impl Brief {
     pub fn registered(value: Registered) -> Brief
         ensures { result ≡ brief_of (made Kind.Registered Outcome.Taken value 0) }
     {
-        let head = value.head_bytes();
         Brief {
             outcome: Outcome::Taken,
             message: Message::Passing(PassingMessage::Registered(value)),
             extension: 0,
-            rest: Rest::From(head),
+            rest: Some(value.head_bytes()),
         }
     }
 }
@@ -129,7 +126,7 @@ pub struct Answer {
     pub outcome: Outcome,
     pub message: Message,
     pub extension: u32,
-    pub rest: Rest,
+    pub rest: Option<usize>,
     pub beside: Beside,
 }
 
@@ -137,14 +134,11 @@ impl Answer {
     pub fn of(brief: Brief, beside: Beside) -> Answer
         ensures { result ≡ answer_of brief beside }
     {
-        let outcome = brief.outcome;
-        let message = brief.message;
-        let rest = brief.rest;
         Answer {
-            outcome,
-            message,
+            outcome: brief.outcome,
+            message: brief.message,
             extension: brief.extension,
-            rest,
+            rest: brief.rest,
             beside,
         }
     }

@@ -1,9 +1,9 @@
 -- The contract of each public function determines its result: any two results that meet it, at the same arguments, are equal.
--- The public functions here are the elements, the tail, the refusals that are made and their numbers, and why an answer has no value.
+-- The public functions here are the elements, the tail, the refusals that are made and their numbers.
 -- `Post` is a function's `ensures` as the check reads it off the source, so no contract is written a second time here.
 -- Assumes nothing.
 use Prim.Native.Nat.{ℕ, ◌-◌}
-use mathlib.Core.Path.{◌≡◌, refl, sym, ap, ◌∙◌}
+use mathlib.Core.Path.{◌≡◌, refl, sym, ap, ap₂, ◌∙◌}
 use mathlib.Core.List.{List, [], ◌∷◌}
 use lib.ListN.{get_or}
 use contract.Lifetimes.{Lfts}
@@ -12,22 +12,18 @@ use borrow.Fn.Kinds.{ParamKind, ResultKind, Dens, res_t, ended_of}
 use borrow.Fn.Kinds as kinds
 use Rattle.bits.specs.Out.{Out, taken, refused}
 use Rattle.bits.specs.Refusals.{refusal_number}
-use Rattle.bits.specs.Answers.{read_out, byte_out, word_out}
+use Rattle.std.specs.Prelude.{Result, Ok, Err}
+use Rattle.bits.specs.Answers.{out_by, out_of}
+use Rattle.bits.specs.declared.unsigned.Unsigned.{Ghosts}
+use Rattle.std.specs.declared.clone.Clone
+use denote.RattleType.{RattleType}
+use denote.Param.Laws.{Laws, IsCopy}
+use mir.Syntax.{Dict}
 use Rattle.bits.specs.declared.cursor.Cursor.{Cursor}
 use Rattle.bits.specs.declared.refusal.Refusal.{Refusal}
 use Rattle.bits.specs.declared.refusal.Refusal.TheVariants.{Kind, Size, Short, Zeros, Rule, Regions, Tail, Slot, Table, Rows}
-use Rattle.bits.specs.declared.read.Read.{Read}
-use Rattle.bits.specs.declared.read.Read.TheVariants.{Value, Refused}
-use Rattle.bits.specs.declared.read.ByteRead.{ByteRead}
-use Rattle.bits.specs.declared.read.ByteRead.TheVariants as byte
-use Rattle.bits.specs.declared.read.WordRead.{WordRead}
-use Rattle.bits.specs.declared.read.WordRead.TheVariants as word
 use Rattle.bits.proofs.element.u.Kinds as u-kinds
 use Rattle.bits.proofs.element.u.Reads as u-reads
-use Rattle.bits.proofs.element.byte.Kinds as byte-kinds
-use Rattle.bits.proofs.element.byte.Reads as byte-Reads
-use Rattle.bits.proofs.element.word.Kinds as word-kinds
-use Rattle.bits.proofs.element.word.Reads as word-reads
 use Rattle.bits.proofs.element.ue.Kinds as ue-kinds
 use Rattle.bits.proofs.element.ue.Reads as ue-reads
 use Rattle.bits.proofs.element.signed.Kinds as signed-kinds
@@ -42,12 +38,6 @@ use Rattle.bits.proofs.refusal.Refusal.rule.Kinds as rule-kinds
 use Rattle.bits.proofs.refusal.Refusal.rule.Reads as rule-reads
 use Rattle.bits.proofs.refusal.Refusal.regions.Kinds as regions-kinds
 use Rattle.bits.proofs.refusal.Refusal.regions.Reads as regions-reads
-use Rattle.bits.proofs.read.Read.refusal.Kinds as read-refusal-kinds
-use Rattle.bits.proofs.read.Read.refusal.Reads as read-refusal-reads
-use Rattle.bits.proofs.read.ByteRead.refusal.Kinds as byte-refusal-kinds
-use Rattle.bits.proofs.read.ByteRead.refusal.Reads as byte-refusal-reads
-use Rattle.bits.proofs.read.WordRead.refusal.Kinds as word-refusal-kinds
-use Rattle.bits.proofs.read.WordRead.refusal.Reads as word-refusal-reads
 use Rattle.bits.proofs.refusal.Refusal.kind.Kinds as kind-made-kinds
 use Rattle.bits.proofs.refusal.Refusal.kind.Reads as kind-made-reads
 use Rattle.bits.proofs.refusal.Refusal.size.Kinds as size-made-kinds
@@ -58,10 +48,6 @@ use Rattle.bits.proofs.refusal.Refusal.table.Kinds as table-made-kinds
 use Rattle.bits.proofs.refusal.Refusal.table.Reads as table-made-reads
 use Rattle.bits.proofs.refusal.Refusal.rows.Kinds as rows-made-kinds
 use Rattle.bits.proofs.refusal.Refusal.rows.Reads as rows-made-reads
-use Rattle.bits.proofs.refusal.Refusal.unasked.Kinds as unasked-made-kinds
-use Rattle.bits.proofs.refusal.Refusal.unasked.Reads as unasked-made-reads
-use Rattle.bits.proofs.read.Onward.refusal.Kinds as onward-refusal-kinds
-use Rattle.bits.proofs.read.Onward.refusal.Reads as onward-refusal-reads
 
 -- the arguments a fix the result: x and y, each with whatever stands at exit, are the same
 abbrev pub Determines : (n : ℕ) (ps : List (ParamKind n)) (r : ResultKind n) → kinds.Out n ps r → Type 0
@@ -92,36 +78,27 @@ DeterminesPart n ps r held Post =
 told-by : {R X : Type 0} (meaning : R → X) (back : X → R) → ((r : R) → back (meaning r) ≡ r) → (r t : R) → meaning r ≡ meaning t → r ≡ t
 told-by meaning back same r t e = sym (same r) ∙ ap back e ∙ same t
 
--- the answer of these two cases that means o
-abbrev pub made : {R A : Type 0} → (A → Cursor → R) → (Refusal → R) → Out A → R
-made value refuse (taken a q) = value a (record { at = q })
-made value refuse (refused r) = refuse r
+-- the answer that means o
+abbrev pub answer_of : {A : Type 0} → Out A → Result (A × Cursor) Refusal
+answer_of (taken a q) = Ok (a, record { at = q })
+answer_of (refused r) = Err r
 
--- of every enum of a value with its cursor, or a refusal
-pub told : {R A : Type 0} (meaning : R → Out A) (value : A → Cursor → R) (refuse : Refusal → R)
-    → ((r : R) → made value refuse (meaning r) ≡ r)
-    → (r t : R)
-    → meaning r ≡ meaning t
-    → r ≡ t
-told meaning value refuse = told-by meaning (made value refuse)
+had : {A : Type 0} (r : Result (A × Cursor) Refusal) → answer_of (out_of r) ≡ r
+had (Ok r) = refl
+had (Err r) = refl
 
-had : (r : Read) → made Value Refused (read_out r) ≡ r
-had (Value v c) = refl
-had (Refused r) = refl
+pub told : {A : Type 0} (r t : Result (A × Cursor) Refusal) → out_of r ≡ out_of t → r ≡ t
+told = told-by out_of answer_of had
 
-pub read_told : (r t : Read) → read_out r ≡ read_out t → r ≡ t
-read_told = told read_out Value Refused had
-
-byte-had : (r : ByteRead) → made byte.Value byte.Refused (byte_out r) ≡ r
-byte-had (byte.Value v c) = refl
-byte-had (byte.Refused r) = refl
-
-pub byte-told : (r t : ByteRead) → byte_out r ≡ byte_out t → r ≡ t
-byte-told = told byte_out byte.Value byte.Refused byte-had
-
-word_had : (r : WordRead) → made word.Value word.Refused (word_out r) ≡ r
-word_had (word.Value v c) = refl
-word_had (word.Refused r) = refl
+-- and where the numbers that were read tell the values apart
+pub told-by-number : {A : Type 0} (number : A → ℕ) → ((a b : A) → number a ≡ number b → a ≡ b) → (r t : Result (A × Cursor) Refusal) → out_by number r ≡ out_by number t → r ≡ t
+told-by-number number tells (Ok x) (Ok y) e =
+    let v : number x.0 ≡ number y.0 = cc in
+    let c : x.1.at ≡ y.1.at = cc in
+    ap₂ (λ a q. Ok (a, record { at = q })) (tells x.0 y.0 v) c
+told-by-number number tells (Err x) (Err y) e = let v : x ≡ y = cc in ap Err v
+told-by-number number tells (Ok x) (Err y) e = cc
+told-by-number number tells (Err x) (Ok y) e = cc
 
 -- and the numbers tell the refusals apart: this list has each at its number
 refusals : List Refusal
@@ -145,23 +122,20 @@ refusal-told = told-by refusal_number (λ n. get_or refusals (n - 1) Kind) numbe
 
 -- ---- the public functions
 
-pub u-determined : Determines 1 u-kinds.ps u-kinds.r u-reads.Post
-u-determined κs a x y s t p q = read_told x y (p ∙ sym q)
-
-pub byte-determined : Determines 1 byte-kinds.ps byte-kinds.r byte-Reads.Post
-byte-determined κs a x y s t p q = byte-told x y (p ∙ sym q)
-
-pub word-determined : Determines 1 word-kinds.ps word-kinds.r word-reads.Post
-word-determined κs a x y s t p q = told word_out word.Value word.Refused word_had x y (p ∙ sym q)
+-- u(n) at any type of a record's number
+module _ (T : RattleType) (L : Laws T) (C : IsCopy T) (N : Ghosts T.Denot) (N-dict : Dict) (K : Clone.Ghosts T.Denot) (K-dict : Dict)
+    (tells : (x y : T.Denot) → N.number x ≡ N.number y → x ≡ y) where
+  pub u-determined : Determines 2 (u-kinds.ps T L C) (u-kinds.r T L C) (u-reads.Post T L C N N-dict K K-dict)
+  u-determined κs a x y s t p q = told-by-number N.number tells x y (p ∙ sym q)
 
 pub ue-determined : Determines 1 ue-kinds.ps ue-kinds.r ue-reads.Post
-ue-determined κs a x y s t p q = read_told x y (p ∙ sym q)
+ue-determined κs a x y s t p q = told x y (p ∙ sym q)
 
 pub signed-determined : Determines 0 signed-kinds.ps signed-kinds.r signed-Reads.Post
 signed-determined κs a x y s t p q = p ∙ sym q
 
 pub identifier-determined : Determines 1 identifier-kinds.ps identifier-kinds.r identifier-reads.Post
-identifier-determined κs a x y s t p q = p ∙ sym q
+identifier-determined κs a x y s t p q = told x y (p ∙ sym q)
 
 pub tail-determined : Determines 1 tail-kinds.ps tail-kinds.r tail-reads.Post
 tail-determined κs a x y s t p q = p ∙ sym q
@@ -174,15 +148,6 @@ rule-determined κs a x y s t p q = p ∙ sym q
 
 pub regions-determined : Determines 0 regions-kinds.ps regions-kinds.r regions-reads.Post
 regions-determined κs a x y s t p q = p ∙ sym q
-
-pub read-refusal-determined : Determines 0 read-refusal-kinds.ps read-refusal-kinds.r read-refusal-reads.Post
-read-refusal-determined κs a x y s t p q = p ∙ sym q
-
-pub byte-refusal-determined : Determines 0 byte-refusal-kinds.ps byte-refusal-kinds.r byte-refusal-reads.Post
-byte-refusal-determined κs a x y s t p q = p ∙ sym q
-
-pub word-refusal-determined : Determines 0 word-refusal-kinds.ps word-refusal-kinds.r word-refusal-reads.Post
-word-refusal-determined κs a x y s t p q = p ∙ sym q
 
 pub kind-made-determined : Determines 0 kind-made-kinds.ps kind-made-kinds.r kind-made-reads.Post
 kind-made-determined κs a x y s t p q = p ∙ sym q
@@ -198,9 +163,3 @@ table-made-determined κs a x y s t p q = p ∙ sym q
 
 pub rows-made-determined : Determines 0 rows-made-kinds.ps rows-made-kinds.r rows-made-reads.Post
 rows-made-determined κs a x y s t p q = p ∙ sym q
-
-pub unasked-made-determined : Determines 0 unasked-made-kinds.ps unasked-made-kinds.r unasked-made-reads.Post
-unasked-made-determined κs a x y s t p q = p ∙ sym q
-
-pub onward-refusal-determined : Determines 0 onward-refusal-kinds.ps onward-refusal-kinds.r onward-refusal-reads.Post
-onward-refusal-determined κs a x y s t p q = p ∙ sym q

@@ -5,11 +5,11 @@ use mathlib.Core.Path.{◌≡◌, refl, sym, ap, ap₂, ◌∙◌}
 use mathlib.Core.Logic.{◌⊎◌, inl, inr}
 use mathlib.Core.Bool.{Bool, true, false}
 use mathlib.Core.List.{List, [], ◌∷◌}
-use native.Mathlib.Nat.{add-zero, zero-add, add-suc, suc-add, pow-suc, lt_of_lt_of_le}
+use native.Mathlib.Nat.{add-zero, zero-add, add-suc, suc-add, pow-suc}
 use native.Mathlib.Omega.{arith}
 use lib.ListN.{length, take, drop}
 use lib.Seq.{length-take-le}
-use lib.Pow.{pow_pos, pow_mono}
+use lib.Pow.{pow_pos}
 use lib.Count.{count_leading_zeros, leading_unique}
 use borrow.Author.Tests.{le-leb, lt-leb}
 use Rattle.bits.specs.Bits.{bits_in, part, from, unsigned_of}
@@ -50,10 +50,6 @@ front_below p n w {v} {q} e = go (below (length w) n)
 pub u-below : (s : List ℕ) (p n : ℕ) {v q : ℕ} → u_at s p n ≡ taken v q → v < 2 ^ n
 unfolding u_at
 u-below s p n e = front_below p n (from s p) e
-
--- so where n is at most k it fits k bits
-pub u-fits-in : (s : List ℕ) (p n k : ℕ) {v q : ℕ} → n ≤ k → u_at s p n ≡ taken v q → v < 2 ^ k
-u-fits-in s p n k h e = lt_of_lt_of_le (u-below s p n e) (pow_mono h)
 
 -- ---- the zeros that bits start with
 

@@ -8,7 +8,7 @@ use Rattle.bits.specs.Out.{taken, refused}
 use Rattle.bits.specs.Elements.{u_front, ue_after, u_at, ue_at}
 use Rattle.bits.specs.Signed.{signed_of}
 use Rattle.bits.specs.Tail.{last_one, tail_of, tail_at}
-use Rattle.bits.specs.declared.ending.Ending.TheVariants.{Extension, Refused}
+use Rattle.std.specs.Prelude.{Ok, Err}
 use Rattle.bits.specs.declared.refusal.Refusal.TheVariants.{Short, Zeros, Tail}
 
 u-32 : u_at (0x40 ∷ 0x00 ∷ 0x5a ∷ 0x00 ∷ 0x01 ∷ []) 8 32 ≡ taken 0x5a0001 40
@@ -38,19 +38,19 @@ unfolding signed_of
 least = refl
 
 -- kind 154, after its cancel flag: 80 is 7, C0 and FF have extensions of 0 and 6 bits
-tail-80 : tail_at (0x80 ∷ []) 1 ≡ Refused Tail
+tail-80 : tail_at (0x80 ∷ []) 1 ≡ Err Tail
 unfolding tail_at tail_of last_one from part bit_at
 tail-80 = refl
 
-tail-c0 : tail_at (0xc0 ∷ []) 1 ≡ Extension 0
+tail-c0 : tail_at (0xc0 ∷ []) 1 ≡ Ok 0
 unfolding tail_at tail_of last_one from part bit_at
 tail-c0 = refl
 
-tail-ff : tail_at (0xff ∷ []) 1 ≡ Extension 6
+tail-ff : tail_at (0xff ∷ []) 1 ≡ Ok 6
 unfolding tail_at tail_of last_one from part bit_at
 tail-ff = refl
 
 -- a one bit before the final byte is not enough
-tail-early : tail_at (0xff ∷ 0x00 ∷ []) 1 ≡ Refused Tail
+tail-early : tail_at (0xff ∷ 0x00 ∷ []) 1 ≡ Err Tail
 unfolding tail_at tail_of last_one from part bit_at
 tail-early = refl

@@ -9,3 +9,4 @@ pub mod Reading
 pub mod Determined
 pub mod Numbers
 mod Examples
+pub mod Exits

@@ -12,8 +12,8 @@ use Rattle.bits.specs.Coding.{Shape, Starts, BreaksOff, TooManyZeros}
 use Rattle.bits.specs.Elements.{shape_front}
 use Rattle.bits.specs.Tail.{ending_number, tail_of}
 use Rattle.bits.specs.Ended.{Ended}
-use Rattle.bits.specs.declared.ending.Ending.{Ending}
-use Rattle.bits.specs.declared.ending.Ending.TheVariants.{Extension, Refused}
+use Rattle.bits.specs.Tail.{Ending}
+use Rattle.std.specs.Prelude.{Ok, Err}
 use Rattle.bits.specs.declared.refusal.Refusal.{Refusal}
 use Rattle.bits.specs.declared.refusal.Refusal.TheVariants.{Kind, Size, Short, Zeros, Rule, Regions, Tail, Slot, Table, Rows}
 use Rattle.bits.proofs.Determined.{refusal-told}
@@ -58,13 +58,13 @@ module _ (h : Shape) (w : List Bool) where
 
 -- ---- of what is left after a message
 
-ending-extension : (x : Ending) → ending_number x ≡ 0 → (e : ℕ) × (x ≡ Extension e)
-ending-extension (Extension e) z = (e, refl)
-ending-extension (Refused r) z = absurd (omega (arith, (refused-some r).0))
+ending-extension : (x : Ending) → ending_number x ≡ 0 → (e : ℕ) × (x ≡ Ok e)
+ending-extension (Ok e) z = (e, refl)
+ending-extension (Err r) z = absurd (omega (arith, (refused-some r).0))
 
-ending-tail : (x : Ending) → ending_number x ≡ 7 → x ≡ Refused Tail
-ending-tail (Extension e) z = absurd (omega arith)
-ending-tail (Refused r) z = ap Refused (refusal-told r Tail z)
+ending-tail : (x : Ending) → ending_number x ≡ 7 → x ≡ Err Tail
+ending-tail (Ok e) z = absurd (omega arith)
+ending-tail (Err r) z = ap Err (refusal-told r Tail z)
 
 module _ (w : List Bool) where
   pub ending-0 : (ending_number (tail_of w) ≡ 0) ↔ ((e : ℕ) × Ended w e)

@@ -15,11 +15,11 @@ use Rattle.bits.specs.Bits.{unsigned_of}
 use Rattle.bits.specs.Out.{Out, taken, refused}
 use Rattle.bits.specs.Elements.{u_front, meant, ue_after, shape_front}
 use Rattle.bits.specs.Coding.{Shape, unsigned, exp_golomb, Starts, BreaksOff, TooManyZeros}
-use Rattle.bits.specs.Tail.{Last, none, at, further, last_one, judged, tail_of}
+use Rattle.bits.specs.Tail.{Ending, Last, none, at, further, last_one, judged, tail_of}
 use Rattle.bits.specs.Ended.{Tailed, Ended}
 use Rattle.bits.specs.declared.refusal.Refusal.{Refusal}
 use Rattle.bits.specs.declared.refusal.Refusal.TheVariants.{Short, Zeros, Tail}
-use Rattle.bits.specs.declared.ending.Ending.TheVariants.{Extension, Refused}
+use Rattle.std.specs.Prelude.{Ok, Err}
 use Rattle.bits.proofs.BitLaws.{below}
 use Rattle.bits.proofs.ElementLaws.{u-fits, u-breaks}
 use Rattle.bits.proofs.TailLaws.{judged-found}
@@ -358,24 +358,24 @@ last-complete (b ∷ before) n = ap (further b) (last-complete before n)
 length-tailed : (before : List Bool) (n : ℕ) → length (before ++ true ∷ replicate n false) ≡ length before + suc n
 length-tailed before n = length-append before (true ∷ replicate n false) ∙ ap (λ x. length before + suc x) (length-replicate n false)
 
-not-extension : {X : Type 0} {e : ℕ} → Refused Tail ≡ Extension e → X
+not-extension : {X : Type 0} {e : ℕ} → Err Tail ≡ Ok e → X
 not-extension h = let z : ◌≡◌ {A = ℕ} 0 1 = cc in absurd (omega arith)
 
-tailed-judged : (w : List Bool) (e : ℕ) → Tailed w e → judged (length w) (last_one w) ≡ Extension e
+tailed-judged : (w : List Bool) (e : ℕ) → Tailed w e → judged (length w) (last_one w) ≡ Ok e
 tailed-judged w e t =
     let l : length w ≡ length t.extension + suc t.zeros = ap length t.split ∙ length-tailed t.extension t.zeros in
     ap (judged (length w)) (ap last_one t.split ∙ last-complete t.extension t.zeros)
     ∙ judged-found (length w) (length t.extension) (omega (arith, t.few))
-    ∙ ap Extension t.count
+    ∙ ap Ok t.count
 
-judged-tailed : (w : List Bool) (e : ℕ) → judged (length w) (last_one w) ≡ Extension e → Tailed w e
+judged-tailed : (w : List Bool) (e : ℕ) → judged (length w) (last_one w) ≡ Ok e → Tailed w e
 judged-tailed w e h = go (last_one w) refl
   where
     inside : (i : ℕ) → last_one w ≡ at i → (length w ≤ i + 8) ⊎ (i + 8 < length w) → Tailed w e
     inside i k (inl l) =
         let r = last-sound w k in
         let m : length w ≡ length r.before + suc r.zeros = ap length r.split ∙ length-tailed r.before r.zeros in
-        let f : Extension i ≡ Extension e = sym (judged-found (length w) i l) ∙ ap (judged (length w)) (sym k) ∙ h in
+        let f : Ok i ≡ Ok e = sym (judged-found (length w) i l) ∙ ap (judged (length w)) (sym k) ∙ h in
         record { extension = r.before; zeros = r.zeros; few = omega (arith, r.count); split = r.split; count = r.count ∙ cc }
     inside i k (inr l) = not-extension (sym (rw (lt-leb (length w) (i + 8) l)) ∙ ap (judged (length w)) (sym k) ∙ h)
 
@@ -388,36 +388,36 @@ judged-tailed w e h = go (last_one w) refl
         swap (inr q) = inl q
 
 -- the payload ends with an extension of e bits exactly where nothing is left and e is 0, or a permitted tail with e bits of extension is
-pub tail-permitted : (w : List Bool) (e : ℕ) → (tail_of w ≡ Extension e) ↔ Ended w e
+pub tail-permitted : (w : List Bool) (e : ℕ) → (tail_of w ≡ Ok e) ↔ Ended w e
 unfolding tail_of
 tail-permitted [] e = (λ h. inl (refl, cc), complete)
   where
-    complete : Ended [] e → Extension 0 ≡ Extension e
-    complete (inl d) = ap Extension (sym d.1)
+    complete : Ended [] e → ◌≡◌ {A = Ending} (Ok 0) (Ok e)
+    complete (inl d) = ap Ok (sym d.1)
     complete (inr t) = absurd (omega (arith, ap length t.split, length-tailed t.extension t.zeros))
 tail-permitted (b ∷ w) e = (λ h. inr (judged-tailed (b ∷ w) e h), complete)
   where
-    complete : Ended (b ∷ w) e → judged (length (b ∷ w)) (last_one (b ∷ w)) ≡ Extension e
+    complete : Ended (b ∷ w) e → judged (length (b ∷ w)) (last_one (b ∷ w)) ≡ Ok e
     complete (inl d) = absurd (omega (arith, ap length d.0))
     complete (inr t) = tailed-judged (b ∷ w) e t
 
 -- and 7 exactly otherwise
-judged-seen : (n : ℕ) (l : Last) → ((e : ℕ) × (judged n l ≡ Extension e)) ⊎ (judged n l ≡ Refused Tail)
+judged-seen : (n : ℕ) (l : Last) → ((e : ℕ) × (judged n l ≡ Ok e)) ⊎ (judged n l ≡ Err Tail)
 judged-seen n none = inr refl
 judged-seen n (at i) = go (leb n (i + 8)) refl
   where
-    go : (t : Bool) → leb n (i + 8) ≡ t → ((e : ℕ) × (judged n (at i) ≡ Extension e)) ⊎ (judged n (at i) ≡ Refused Tail)
+    go : (t : Bool) → leb n (i + 8) ≡ t → ((e : ℕ) × (judged n (at i) ≡ Ok e)) ⊎ (judged n (at i) ≡ Err Tail)
     go true k = inl (i, rw k)
     go false k = inr (rw k)
 
-pub tail-seen : (w : List Bool) → ((e : ℕ) × (tail_of w ≡ Extension e)) ⊎ (tail_of w ≡ Refused Tail)
+pub tail-seen : (w : List Bool) → ((e : ℕ) × (tail_of w ≡ Ok e)) ⊎ (tail_of w ≡ Err Tail)
 unfolding tail_of
 tail-seen [] = inl (0, refl)
 tail-seen (b ∷ w) = judged-seen (length (b ∷ w)) (last_one (b ∷ w))
 
-pub tail-refused : (w : List Bool) → (tail_of w ≡ Refused Tail) ↔ ((e : ℕ) → Ended w e → ⊥)
+pub tail-refused : (w : List Bool) → (tail_of w ≡ Err Tail) ↔ ((e : ℕ) → Ended w e → ⊥)
 tail-refused w = (λ h e d. not-extension (sym h ∙ (tail-permitted w e).1 d), λ never. go never (tail-seen w))
   where
-    go : ((e : ℕ) → Ended w e → ⊥) → ((e : ℕ) × (tail_of w ≡ Extension e)) ⊎ (tail_of w ≡ Refused Tail) → tail_of w ≡ Refused Tail
+    go : ((e : ℕ) → Ended w e → ⊥) → ((e : ℕ) × (tail_of w ≡ Ok e)) ⊎ (tail_of w ≡ Err Tail) → tail_of w ≡ Err Tail
     go never (inl r) = absurd (never r.0 ((tail-permitted w r.0).0 r.1))
     go never (inr h) = h

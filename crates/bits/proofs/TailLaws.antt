@@ -13,7 +13,7 @@ use lib.Pow.{shr-shr}
 use borrow.Author.Tests.{le-leb, lt-leb}
 use Rattle.bits.specs.Bits.{bits_in, bit_at, part, from}
 use Rattle.bits.specs.Tail.{Last, none, at, further, last_one, judged, tail_of, tail_at}
-use Rattle.bits.specs.declared.ending.Ending.TheVariants.{Extension, Refused}
+use Rattle.std.specs.Prelude.{Ok, Err}
 use Rattle.bits.specs.declared.refusal.Refusal.TheVariants.{Tail}
 use Rattle.bits.proofs.BitLaws.{length_part, part-add, from_end}
 
@@ -48,18 +48,18 @@ last-inside (b ∷ w) {i} e = go b (last_one w) refl e (λ j h. last-inside w h)
     go false none h e ih = let z : ◌≡◌ {A = ℕ} 0 1 = cc in absurd (omega arith)
 
 -- no one bit of w lies in the final byte where that begins after w
-judged-early : (n : ℕ) (w : List Bool) → length w + 8 ≤ n → judged n (last_one w) ≡ Refused Tail
+judged-early : (n : ℕ) (w : List Bool) → length w + 8 ≤ n → judged n (last_one w) ≡ Err Tail
 judged-early n w h = go (last_one w) refl
   where
-    go : (l : Last) → last_one w ≡ l → judged n l ≡ Refused Tail
+    go : (l : Last) → last_one w ≡ l → judged n l ≡ Err Tail
     go none e = refl
     go (at i) e = rw (lt-leb n (i + 8) (omega (arith, last-inside w e)))
 
-pub judged-found : (n i : ℕ) → n ≤ i + 8 → judged n (at i) ≡ Extension i
+pub judged-found : (n i : ℕ) → n ≤ i + 8 → judged n (at i) ≡ Ok i
 judged-found n i h = rw (le-leb n (i + 8) h)
 
 -- with nothing left, and with something
-pub tail_none : (s : List ℕ) (p : ℕ) → bits_in s - p ≡ 0 → tail_at s p ≡ Extension 0
+pub tail_none : (s : List ℕ) (p : ℕ) → bits_in s - p ≡ 0 → tail_at s p ≡ Ok 0
 unfolding tail_at tail_of
 tail_none s p h = rw (from_end s p (omega arith))
 
@@ -138,7 +138,7 @@ zeros-passed s p t h z l =
         ap (bit_at s) place ∙ final-bit s e (omega (arith, trailing_le 8 (final_byte s))) (omega arith) ∙ ap (λ r. eqb r 1) (zeros-below 8 (final_byte s) e (omega arith))
 
 -- all that is left is zeros
-pub tail-blank : (s : List ℕ) (p : ℕ) → p < bits_in s → bits_in s - p ≤ final_zeros s → tail_at s p ≡ Refused Tail
+pub tail-blank : (s : List ℕ) (p : ℕ) → p < bits_in s → bits_in s - p ≤ final_zeros s → tail_at s p ≡ Err Tail
 unfolding part last_one
 tail-blank s p h z =
     let none : bits_in s - p - (bits_in s - p) ≡ 0 = omega arith in
@@ -146,14 +146,14 @@ tail-blank s p h z =
     ∙ ap (judged (bits_in s - p)) (zeros-passed s p (bits_in s - p) h z (omega arith) ∙ ap (λ k. last_one (part s p k)) none)
 
 -- the final byte is
-pub tail-early : (s : List ℕ) (p : ℕ) → final_zeros s ≡ 8 → 8 ≤ bits_in s - p → tail_at s p ≡ Refused Tail
+pub tail-early : (s : List ℕ) (p : ℕ) → final_zeros s ≡ 8 → 8 ≤ bits_in s - p → tail_at s p ≡ Err Tail
 tail-early s p z l =
     tail-some s p (omega arith)
     ∙ ap (judged (bits_in s - p)) (zeros-passed s p 8 (omega arith) (omega arith) l)
     ∙ judged-early (bits_in s - p) (part s p (bits_in s - p - 8)) (omega (arith, length_part s p (bits_in s - p - 8)))
 
 -- the extension is what stands before the last one bit
-pub tail-found : (s : List ℕ) (p : ℕ) → final_zeros s < 8 → final_zeros s < bits_in s - p → tail_at s p ≡ Extension (bits_in s - p - 1 - final_zeros s)
+pub tail-found : (s : List ℕ) (p : ℕ) → final_zeros s < 8 → final_zeros s < bits_in s - p → tail_at s p ≡ Ok (bits_in s - p - 1 - final_zeros s)
 tail-found s p z l =
     let e = bits_in s - p - 1 - final_zeros s in
     let more : bits_in s - p - final_zeros s ≡ e + 1 = omega arith in
@@ -163,3 +163,6 @@ tail-found s p z l =
     tail-some s p (omega arith)
     ∙ ap (judged (bits_in s - p)) (zeros-passed s p (final_zeros s) (omega arith) (omega arith) (omega arith) ∙ ap (λ k. last_one (part s p k)) more ∙ last-part-one s p e one)
     ∙ judged-found (bits_in s - p) e (omega arith)
+
+-- what the goals of reading a tail want
+pub ruleset tails = (tail_none, tail-blank, tail-early, tail-found, trailing_le)

@@ -1,30 +1,13 @@
--- What the code's answers mean, case by case.
-use Rattle.std.specs.Prelude.{ℕ}
-use Rattle.bits.specs.Refusals.{unasked}
+-- What an answer of the code means, case by case.
+use Rattle.std.specs.Prelude.{Result, Ok, Err}
 use Rattle.bits.specs.Out.{Out, taken, refused}
-use Rattle.bits.specs.declared.read.Read.{Read}
-use Rattle.bits.specs.declared.read.Read.TheVariants.{Value, Refused}
-use Rattle.bits.specs.declared.read.ByteRead.{ByteRead}
-use Rattle.bits.specs.declared.read.ByteRead.TheVariants as byte
-use Rattle.bits.specs.declared.read.WordRead.{WordRead}
-use Rattle.bits.specs.declared.read.WordRead.TheVariants as word
-use Rattle.bits.specs.declared.read.Onward.{Onward}
-use Rattle.bits.specs.declared.read.Onward.TheVariants as onward
+use Rattle.bits.specs.declared.cursor.Cursor.{Cursor}
 use Rattle.bits.specs.declared.refusal.Refusal.{Refusal}
 
-abbrev pub read_out : Read → Out ℕ
-read_out (Value v c) = taken v c.at
-read_out (Refused r) = refused r
+-- with what is read seen as f says
+abbrev pub out_by : {A B : Type 0} → (A → B) → Result (A × Cursor) Refusal → Out B
+out_by f (Ok r) = taken (f r.0) r.1.at
+out_by f (Err r) = refused r
 
-abbrev pub byte_out : ByteRead → Out ℕ
-byte_out (byte.Value v c) = taken v c.at
-byte_out (byte.Refused r) = refused r
-
-abbrev pub word_out : WordRead → Out ℕ
-word_out (word.Value v c) = taken v c.at
-word_out (word.Refused r) = refused r
-
--- why a reading does not go on; asked only where it does not
-abbrev pub onward_refusal : Onward → Refusal
-onward_refusal (onward.Next c) = unasked
-onward_refusal (onward.Refused r) = r
+abbrev pub out_of : {A : Type 0} → Result (A × Cursor) Refusal → Out A
+out_of r = out_by (λ a. a) r

@@ -2,12 +2,13 @@
 ghost use Rattle.std.specs.Prelude.{◌≡◌, ◌+◌, ◌-◌, ◌*◌, ◌≤◌, ◌<◌, length};
 ghost use Rattle.bits.specs.Bits.{Payload, bits_in, part, from, unsigned_of};
 ghost use Rattle.bits.specs.Elements.{leading, u_at, ue_at};
-ghost use Rattle.bits.specs.Answers.{read_out, byte_out, word_out};
+ghost use Rattle.bits.specs.Answers.{out_of, out_by};
 ghost use Rattle.bits.specs.Signed.{signed_of};
 
 use crate::cursor::Cursor;
-use crate::read::{ByteRead, Read, WordRead};
+use crate::read::Reading;
 use crate::refusal::Refusal;
+use crate::unsigned::Unsigned;
 
 // How many bits there are from a position on.
 pub(crate) fn remaining(s: &[u8], at: usize) -> usize
@@ -91,41 +92,18 @@ pub(crate) fn unsigned(s: &[u8], at: usize, n: usize) -> u32
     half(s, at, high) as u32 * 65536 + half(s, at + high, 16) as u32
 }
 
-// u(n): n unsigned bits.
-pub fn u(s: &[u8], c: Cursor, n: u32) -> Read
-    requires { Payload s.now × (n ≤ 32) }
-    ensures { read_out result ≡ u_at s.now c.at n }
+// u(n): n unsigned bits. A reader calls it at each element, most often with a constant n: as a part of its caller it is the few steps of that n.
+#[inline(always)]
+pub fn u<T: Unsigned>(s: &[u8], c: Cursor, n: u32) -> Reading<T>
+    requires { Payload s.now × (n ≤ T.room) }
+    ensures { out_by T.number result ≡ u_at s.now c.at n }
 {
     let at = c.at;
     let width = n as usize;
     if remaining(s, at) < width {
-        return Read::Refused(Refusal::Short);
+        return Err(Refusal::Short);
     }
-    Read::Value(unsigned(s, at, width), Cursor { at: at + width })
-}
-
-// u(n) of at most 8 bits, as a byte.
-pub fn byte(s: &[u8], c: Cursor, n: u32) -> ByteRead
-    requires { Payload s.now × (n ≤ 8) }
-    ensures { byte_out result ≡ u_at s.now c.at n }
-{
-    let r = u(s, c, n);
-    let Read::Value(v, next) = r else {
-        return ByteRead::Refused(r.refusal());
-    };
-    ByteRead::Value(v as u8, next)
-}
-
-// u(n) of at most 16 bits.
-pub fn word(s: &[u8], c: Cursor, n: u32) -> WordRead
-    requires { Payload s.now × (n ≤ 16) }
-    ensures { word_out result ≡ u_at s.now c.at n }
-{
-    let r = u(s, c, n);
-    let Read::Value(v, next) = r else {
-        return WordRead::Refused(r.refusal());
-    };
-    WordRead::Value(v as u16, next)
+    Ok((T::of(unsigned(s, at, width)), Cursor { at: at + width }))
 }
 
 // The zero bits from a position on, up to the first one, the payload's end or the 32nd.
@@ -141,23 +119,20 @@ fn zeros(s: &[u8], at: usize) -> u32
 }
 
 // ue(v): z zeros, a one and z bits. The one and the z bits make one more than the meaning.
-pub fn ue(s: &[u8], c: Cursor) -> Read
+pub fn ue(s: &[u8], c: Cursor) -> Reading<u32>
     requires { Payload s.now }
-    ensures { read_out result ≡ ue_at s.now c.at }
+    ensures { out_of result ≡ ue_at s.now c.at }
 {
     let at = c.at;
     let z = zeros(s, at);
     if z == 32 {
-        return Read::Refused(Refusal::Zeros);
+        return Err(Refusal::Zeros);
     }
     let one = Cursor {
         at: at + z as usize,
     };
-    let rest = u(s, one, z + 1);
-    let Read::Value(x, next) = rest else {
-        return rest;
-    };
-    Read::Value(x - 1, next)
+    let (x, next) = u::<u32>(s, one, z + 1)?;
+    Ok((x - 1, next))
 }
 
 // i(32): the number whose two's complement in 32 bits was read.

@@ -8,3 +8,4 @@ pub mod ending;
 pub mod identifier;
 pub mod read;
 pub mod refusal;
+pub mod unsigned;

@@ -1,10 +1,10 @@
 // Why a payload, or a call, is refused. Refusals are made in this crate and handed up whole.
 ghost use Rattle.std.specs.Prelude.{◌≡◌};
-ghost use Rattle.bits.specs.Refusals.{refusal_number, by_kind, by_size, by_slot, by_table, by_rows, unasked, broken, too_many, refusal_of};
+ghost use Rattle.bits.specs.Refusals.{refusal_number, by_kind, by_size, by_slot, by_table, by_rows, broken, too_many, refusal_of};
 
 use crate::cursor::Cursor;
 
-#[derive(Clone, Copy)]
+#[derive(Clone, Copy, Debug, PartialEq, Eq)]
 pub enum Refusal {
     // The kind is none that is read.
     Kind,
@@ -75,13 +75,6 @@ impl Refusal {
         ensures { result ≡ by_rows }
     {
         Refusal::Rows
-    }
-
-    // What an answer that has a value gives as its refusal. Nobody asks for it.
-    pub fn unasked() -> Refusal
-        ensures { result ≡ unasked }
-    {
-        Refusal::Short
     }
 
     // The refusal of an element that breaks a rule; the element starts at the cursor.

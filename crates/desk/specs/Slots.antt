@@ -1,7 +1,7 @@
 -- The slots after each call of a script.
 use Rattle.std.specs.Prelude.{ℕ, List, take}
 use Rattle.script.specs.declared.call.Call.{Call}
-use Rattle.script.specs.declared.call.Call.TheVariants.{Open, Close, Sequence, Picture, Table, Feed, Read, Explain, Help, Nothing}
+use Rattle.script.specs.declared.call.Call.TheVariants.{Open, Close, Sequence, Picture, Table, Feed, Read, Explain, Help}
 use Rattle.slots.specs.declared.Slots.{Slots}
 use Rattle.held.specs.Held.{nothing}
 use Rattle.slots.specs.Slots.{refused, opening, closing, sequencing, picturing, lifted}
@@ -18,4 +18,3 @@ slots_after (Feed n p) s lent = (fed_to s n p.kind p.size (take p.count lent)).0
 slots_after (Read p) s lent = s
 slots_after (Explain p) s lent = s
 slots_after Help s lent = s
-slots_after Nothing s lent = s

@@ -1,4 +1,4 @@
-// What a call on a slot answers, and the slots after it.
+// What a call on a slot answers, and the slots as it leaves them.
 ghost use Rattle.std.specs.Prelude.{◌≡◌};
 ghost use Rattle.desk.specs.Slots.{slots_after};
 
@@ -6,49 +6,43 @@ use crate::picture::pictured;
 use crate::read::shown;
 use crate::status::status;
 use crate::table::table;
+use bits::refusal::Refusal;
+use held::Held;
 use lent::front;
-use print::{Out, text};
+use print::Out;
 use script::call::Call;
 use script::line::BYTES;
 use show::number::called;
 use show::style::Style;
-use slots::{Called, Slots};
+use slots::{Slots, number};
 
 // A call that answers a number only.
-fn done(out: &mut Out, r: Called) -> Slots
-    ensures { result ≡ r.slots }
-{
-    let answer = r.answer;
-    let n = answer.number();
+fn done(out: &mut Out, answer: Result<(), Refusal>) {
+    let n = number(answer);
     called(out, n);
     status(out, n);
-    text(out, b"\n");
-    r.slots
+    out.text("\n");
 }
 
 // The calls that look at no slot leave them all, and are not answered here.
-pub fn answer(out: &mut Out, slots: Slots, call: Call, bytes: &[u8; BYTES]) -> Slots
-    ensures { result ≡ slots_after call slots bytes.now }
+#[tactic(auto, unfolding(crate::specs::Slots::slots_after))]
+pub fn answer(out: &mut Out, slots: &mut Slots, call: Call, bytes: &[u8; BYTES])
+    ensures { slots.new ≡ slots_after call slots.old bytes.now }
 {
     match call {
         Call::Open(n) => done(out, slots.open(n)),
         Call::Close(n) => done(out, slots.close(n)),
         Call::Sequence(n) => done(out, slots.sequence(n)),
         Call::Picture(n) => {
-            let r = slots.picture(n);
-            let answer = r.answer;
-            pictured(out, answer, r.held);
-            r.slots
+            let mut held = Held::nothing();
+            let answer = slots.picture(n, &mut held);
+            pictured(out, answer, held);
         }
-        Call::Table(n, numbers) => {
-            table(out, slots, n, numbers);
-            slots
-        }
+        Call::Table(n, numbers) => table(out, *slots, n, numbers),
         Call::Feed(n, p) => {
-            let fed = feeding::feed(slots, n, p.kind, p.size, front(bytes, p.count));
-            shown(out, Style::Line, fed.answer, p, front(bytes, p.count));
-            fed.slots
+            let answer = feeding::feed(slots, n, p.kind, p.size, front(bytes, p.count));
+            shown(out, Style::Line, answer, p, front(bytes, p.count));
         }
-        _ => slots,
+        _ => {}
     }
 }

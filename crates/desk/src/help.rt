@@ -1,26 +1,23 @@
 // What the tool does, for someone with nobody to ask.
-use print::{Out, numbered, text};
+use print::Out;
 use show::kind::list;
 use show::number::sentence;
 
-fn meaning(out: &mut Out, n: u32) {
-    numbered(out, b"\n  #  ", n as u64);
-    sentence(out, n);
-}
+// What a call may answer.
+const NUMBERS: [u32; 12] = [0, 1, 2, 3, 4, 5, 6, 7, 8, 9, 10, 20];
 
 fn meanings(out: &mut Out) {
-    let mut n: u32 = 0;
-    while n < 11 {
-        meaning(out, n);
-        n += 1;
+    for n in NUMBERS {
+        out.text("\n  ");
+        out.number(u64::from(n));
+        out.text("  ");
+        sentence(out, n);
     }
-    meaning(out, 20);
 }
 
 fn usage(out: &mut Out) {
-    text(
-        out,
-        b"Bruskelde reads SEI messages (H.274) and keeps what eight slots hold.\n\n\
+    out.text(
+        "Bruskelde reads SEI messages (H.274) and keeps what eight slots hold.\n\n\
         \x20 ./bruskelde 45 81 81 00 00 00 02          explains a payload: its kind, then its bytes\n\
         \x20 ./bruskelde 45 @FILE                      the same of the raw bytes of a file or pipe; @- is standard input\n\
         \x20 ./bruskelde FILE                          runs a script of calls\n\
@@ -34,9 +31,8 @@ fn usage(out: &mut Out) {
 }
 
 fn calls(out: &mut Out) {
-    text(
-        out,
-        b"Calls of a script, one a line; # starts a comment:\n\
+    out.text(
+        "Calls of a script, one a line; # starts a comment:\n\
         \x20 open SLOT                       opens slot 0 to 7, or opens it anew: it holds nothing\n\
         \x20 feed SLOT KIND [size=N] BYTES   reads a payload; kinds 45, 47, 150, 154 and 155 are held, each in place of the one before\n\
         \x20 picture SLOT                    explains what is held, and drops what does not persist\n\
@@ -55,12 +51,9 @@ fn calls(out: &mut Out) {
 pub fn help(out: &mut Out) {
     usage(out);
     calls(out);
-    text(out, b"Kinds (payloadType):\n");
+    out.text("Kinds (payloadType):\n");
     list(out);
-    text(
-        out,
-        b"\nNumbers that a call answers (0 is done for a call that reads nothing):",
-    );
+    out.text("\nNumbers that a call answers (0 is done for a call that reads nothing):");
     meanings(out);
-    text(out, b"\n");
+    out.text("\n");
 }

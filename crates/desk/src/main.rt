@@ -12,7 +12,7 @@ mod table;
 use answer::answer;
 use echo::echo;
 use help::help;
-use print::{Out, flush};
+use print::Out;
 use read::read;
 use script::call::Call;
 use script::input::{CHUNK, Input, LINE};
@@ -28,26 +28,23 @@ fn main(rt: HostRuntime) -> ExitCode {
     let mut out = Out::start(rt.stdout());
     let mut input = Input::start();
     let mut slots = Slots::start();
-    let mut turns: u64 = 18446744073709551615;
-    while 0 < turns {
+    for _ in 0..u64::MAX {
         input = input.next(rt.stdin(), &mut chunk, &mut line);
         if input.whole {
-            let call = call(&mut out, input, &line, &mut bytes);
-            echo(&mut out, call, input, &line);
-            // only a call on a slot copies the slots
-            match call {
-                Call::Read(p) => read(&mut out, Style::Line, p, &bytes),
-                Call::Explain(p) => read(&mut out, Style::Explained, p, &bytes),
-                Call::Help => help(&mut out),
-                Call::Nothing => {}
-                _ => slots = answer(&mut out, slots, call, &bytes),
+            if let Some(call) = call(&mut out, input, &line, &mut bytes) {
+                echo(&mut out, call, input, &line);
+                match call {
+                    Call::Read(p) => read(&mut out, Style::Line, p, &bytes),
+                    Call::Explain(p) => read(&mut out, Style::Explained, p, &bytes),
+                    Call::Help => help(&mut out),
+                    _ => answer(&mut out, &mut slots, call, &bytes),
+                }
             }
-            flush(&mut out);
+            out.flush();
         }
         if input.over || out.unread() {
             break;
         }
-        turns -= 1;
     }
     ExitCode::from(out.status())
 }

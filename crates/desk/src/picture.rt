@@ -1,11 +1,12 @@
 // What a picture answers: the held records, explained.
 use crate::status::status;
+use bits::refusal::Refusal;
 use held::{
     Held, HeldEquirectangular, HeldFramePacking, HeldOrientation, HeldRegionWise, HeldRotation,
 };
-use print::{Out, text};
+use print::Out;
 use show::number::called;
-use slots::Answer;
+use slots::number;
 
 // A kind's record, and whether one is held.
 fn one(out: &mut Out, kind: u64, on: u8, row: &[u64]) -> bool {
@@ -48,17 +49,17 @@ fn records(out: &mut Out, held: Held) {
         | rotation(out, held.rotation)
         | packing(out, held.region_wise);
     if !some {
-        text(out, b", nothing is held");
+        out.text(", nothing is held");
     }
 }
 
 // The number and, unless the call is refused, what is held.
-pub fn pictured(out: &mut Out, answer: Answer, held: Held) {
-    let n = answer.number();
+pub fn pictured(out: &mut Out, answer: Result<(), Refusal>, held: Held) {
+    let n = number(answer);
     called(out, n);
     status(out, n);
     if n == 0 {
         records(out, held);
     }
-    text(out, b"\n");
+    out.text("\n");
 }

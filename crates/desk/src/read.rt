@@ -1,6 +1,6 @@
 // What is shown of a payload and its answer.
 use crate::status::status;
-use answers::{Answer, Rest};
+use answers::Answer;
 use lent::front;
 use print::Out;
 use reader::payload;
@@ -13,17 +13,15 @@ use show::style::Style;
 
 // What follows the head of kinds 4 and 5. Only where there is such a part is the payload read again for it.
 fn part(answer: Answer, p: Payload, bytes: &[u8]) -> &[u8] {
-    let rest = answer.rest;
-    let Rest::From(_) = rest else {
-        return front(bytes, 0);
-    };
-    user_part(p.kind, p.size, bytes)
+    match answer.rest {
+        Some(_) => user_part(p.kind, p.size, bytes),
+        None => &[],
+    }
 }
 
 // What a payload was answered.
 pub fn shown(out: &mut Out, style: Style, answer: Answer, p: Payload, bytes: &[u8]) {
-    let outcome = answer.outcome;
-    let n = outcome.number();
+    let n = answer.outcome.number();
     // kind 155 has the longest row; of a refusal, 8 too, no field is shown
     let mut row = [0u64; REGION_WISE_FIELDS];
     record_row::handing::write(p.kind, p.size, bytes, &mut row);

@@ -3,9 +3,9 @@ ghost use Rattle.std.specs.Prelude.{◌*◌, ◌≤◌};
 ghost use Rattle.kind_region_wise.specs.RegionWise.{most};
 
 use crate::status::status;
+use bits::refusal::Refusal;
 use kind_region_wise::MOST;
-use print::{Out, numbered, text};
-use region_table::rows::Tabled;
+use print::Out;
 use show::number::called;
 use slots::Slots;
 
@@ -15,31 +15,27 @@ const NUMBERS: usize = 18 * MOST;
 fn lent(n: u64) -> usize
     ensures { result ≤ 18 * most }
 {
-    if n < NUMBERS as u64 {
-        return n as usize;
-    }
-    NUMBERS
+    n.min(NUMBERS as u64) as usize
 }
 
-fn shown(out: &mut Out, r: Tabled, rows: &[u64; NUMBERS]) {
+fn shown(out: &mut Out, r: Result<u32, Refusal>, rows: &[u64; NUMBERS]) {
     match r {
-        Tabled::Rows(count) => {
-            numbered(out, b"0 done rows=#", count as u64);
+        Ok(count) => {
+            out.text("0 done rows=");
+            out.number(u64::from(count));
             show::table::table(out, rows, count);
         }
-        Tabled::Refused(why) => {
+        Err(why) => {
             let n = why.number();
             called(out, n);
             status(out, n);
         }
     }
-    text(out, b"\n");
+    out.text("\n");
 }
 
 pub fn table(out: &mut Out, slots: Slots, slot: u64, n: u64) {
     let mut rows = [0u64; NUMBERS];
-    let start = 0;
-    let end = lent(n);
-    let r = region_table::table(slots, slot, &mut rows[start..end]);
+    let r = region_table::table(slots, slot, &mut rows[..lent(n)]);
     shown(out, r, &rows);
 }

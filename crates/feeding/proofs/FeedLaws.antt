@@ -8,6 +8,7 @@ use mathlib.Core.Logic.{◌≢◌, ◌↔◌, ◌⊎◌, inl, inr}
 use mathlib.Core.Bool.{false}
 use mathlib.Core.List.{List}
 use lib.ListN.{take}
+use Rattle.std.specs.Prelude.{Option, Some, None}
 use Rattle.bits.specs.Refusals as refusals
 use Rattle.bits.specs.declared.refusal.Refusal.{Refusal}
 use Rattle.format.specs.Whole.{Reading, taken, set_aside, refused}
@@ -18,8 +19,6 @@ use Rattle.reader.specs.Reader.{answer_to}
 use Rattle.reader.specs.Cases.{stated, Case}
 use Rattle.reader.specs.Cases as cases
 use Rattle.answers.specs.declared.kind.Kind.{Kind}
-use Rattle.answers.specs.declared.kind.Named.{Named}
-use Rattle.answers.specs.declared.kind.Named.TheVariants.{Listed, Unlisted}
 use Rattle.answers.specs.declared.Answer.{Answer}
 use Rattle.answers.specs.declared.Outcome.{Outcome}
 use Rattle.answers.specs.declared.Outcome.TheVariants.{Taken, SetAside, Refused}
@@ -35,6 +34,8 @@ use Rattle.slots.specs.declared.Slot.{Slot}
 use Rattle.slots.specs.declared.Slots.{Slots}
 use Rattle.slots.proofs.Laws.{either, holding-same, shut-8}
 use Rattle.feeding.specs.Feed.{held_by, held_after, shut_as, shut_answer, feeding, fed_to}
+use Rattle.feeding.specs.Filling.{reply_of, shut_reply}
+use Rattle.feeding.specs.declared.filling.Reply.{Reply}
 
 -- ---- what leaves the held records
 
@@ -103,13 +104,16 @@ unheld-feed kind size bytes u h = go (call kind size bytes)
 
 -- ---- the number 8
 
-shut-number : (x : Named) → answer_number (shut_as x) ≡ 8
-shut-number (Listed k) = refl
-shut-number Unlisted = refl
+as-replied : (x : Option Kind) → reply_of (shut_as x) ≡ shut_reply
+as-replied (Some k) = refl
+as-replied None = refl
+
+pub shut_replied : (kind : ℕ) → reply_of (shut_answer kind) ≡ shut_reply
+unfolding shut_answer
+shut_replied kind = as-replied (named kind)
 
 pub shut-is-8 : (kind : ℕ) → answer_number (shut_answer kind) ≡ 8
-unfolding shut_answer
-shut-is-8 kind = shut-number (named kind)
+shut-is-8 kind = ap (λ (r : Reply). r.number) (shut_replied kind)
 
 of-element : {r : Refusal} → refusals.OfElement r → refusals.refusal_number r ≡ 8 → ⊥
 of-element refusals.short e = omega arith

@@ -4,13 +4,16 @@ use Prim.Native.Nat.{ℕ}
 use native.Mathlib.Omega.{arith}
 use mathlib.Core.Path.{◌≡◌, refl, sym, ap, ◌∙◌, subst}
 use mathlib.Core.Logic.{◌≢◌}
-use mathlib.Core.Bool.{true}
+use mathlib.Core.Bool.{Bool, true, false}
+use lib.Dec.{eqb}
+use borrow.Author.Tests.{eqb-true, eqb-false}
+use Rattle.std.specs.Prelude.{if◌then◌else◌}
 use mathlib.Core.List.{List}
 use lib.ListN.{take}
 use Rattle.bits.specs.Out.{Out}
 use Rattle.bits.specs.Out as out
-use Rattle.bits.specs.declared.ending.Ending.{Ending}
-use Rattle.bits.specs.declared.ending.Ending.TheVariants as ending
+use Rattle.bits.specs.Tail.{Ending}
+use Rattle.std.specs.Prelude.{Ok, Err}
 use Rattle.format.specs.Reading.{run_at}
 use Rattle.format.specs.Whole.{Reading, taken, set_aside, refused, ended}
 use Rattle.format.proofs.Whole.{ending_at, closed_at, whole-at}
@@ -30,12 +33,14 @@ use Rattle.answers.specs.declared.Outcome.{Outcome}
 use Rattle.answers.specs.declared.Outcome.TheVariants.{Taken, SetAside, Refused}
 use Rattle.reader.proofs.Calls.{of-kind}
 use Rattle.held.specs.Lasting.{Lasting, frame_packing, orientation, equirectangular, rotation, region_wise, kind_of, RecordOf, HeldOf}
-use Rattle.held.specs.Held.{taken_of, held_of, nothing, replaced}
+use Rattle.held.specs.Held.{none_of, taken_of, held_of, nothing, replaced, took}
 use Rattle.held.specs.declared.Held.{Held}
-use Rattle.held.proofs.HeldLaws.{other-replaced}
+use Rattle.held.proofs.HeldLaws.{of-nothing, other-replaced}
+use Rattle.held.proofs.LastingLaws.{same_kind}
 use Rattle.feeding.specs.Feed.{held_lasting, held_after}
-use Rattle.feeding.specs.Filling.{reply_of, taken_mark, lasting_in, leaving, leaving_of, filling}
+use Rattle.feeding.specs.Filling.{reply_of, taken_mark, lasting_in, leaving, leaving_of, filling, filled_of, storing, left_by}
 use Rattle.feeding.specs.declared.filling.Reply.{Reply}
+use Rattle.feeding.specs.declared.filling.Filled as declared
 use Rattle.feeding.proofs.FeedLaws.{untaken-keeps, took-after}
 
 -- it is taken with a record of its kind, or not taken
@@ -73,6 +78,56 @@ module _ (k : Lasting) (h : Held) (a : Answer) where
 
   pub leaves-held : taken_mark a.outcome ≡ 0 → held_after h a ≡ h
   leaves-held z = untaken-keeps h a (λ q. omega (arith, sym (ap taken_mark q) ∙ z))
+
+-- and so what code leaves that stores what it fills
+pub stores : (k : Lasting) (h : Held) (size : ℕ) (bytes : List ℕ) → storing k h (filled_of k size bytes) ≡ left_by h (answer_to (number (kind_of k)) size bytes)
+unfolding filled_of filling
+stores k h size bytes = go (eqb (taken_mark a.outcome) 0) refl
+  where
+    a : Answer
+    a = answer_to (number (kind_of k)) size bytes
+
+    go : (b : Bool) → eqb (taken_mark a.outcome) 0 ≡ b
+        → ◌≡◌ {A = Held × Reply} (if b then h else replaced k h (leaving k (lasting_in a.message) a.beside.region_wise), reply_of a) (left_by h a)
+    go true e = ap (λ (x : Held). (x, reply_of a)) (sym (leaves-held k h a (eqb-true _ 0 e)))
+    go false e = ap (λ (x : Held). (x, reply_of a)) (fills-held k h a (filled k size bytes) (eqb-false _ 0 e))
+
+pub stores_kind : (k : Lasting) (h : Held) (kind size : ℕ) (bytes : List ℕ) (f : declared.Filled (HeldOf k)) (w : Held × Reply)
+    → w ≡ storing k h f → f ≡ filled_of k size bytes → kind ≡ number (kind_of k) → w ≡ left_by h (answer_to kind size bytes)
+stores_kind k h kind size bytes f w e g n = e ∙ ap (storing k h) g ∙ stores k h size bytes ∙ ap (λ (i : ℕ). left_by h (answer_to i size bytes)) (sym n)
+
+-- ---- what a message of another kind leaves
+
+abbrev message_of : (k : Lasting) → RecordOf k → LastingMessage
+message_of frame_packing a = lasting.FramePacking a
+message_of orientation a = lasting.Orientation a
+message_of equirectangular a = lasting.Equirectangular a
+message_of rotation a = lasting.Rotation a
+message_of region_wise a = lasting.RegionWise
+
+-- every message is of some kind
+data Of (m : LastingMessage) : Type 0 where
+  of : (j : Lasting) (a : RecordOf j) → m ≡ message_of j a → held_lasting nothing m (zeros kinds.RegionWise) ≡ took j nothing a → Of m
+
+of_some : (m : LastingMessage) → Of m
+of_some (lasting.FramePacking x) = of frame_packing x refl refl
+of_some (lasting.Orientation x) = of orientation x refl refl
+of_some (lasting.Equirectangular x) = of equirectangular x refl refl
+of_some (lasting.Rotation x) = of rotation x refl refl
+of_some lasting.RegionWise = of region_wise (zeros kinds.RegionWise) refl refl
+
+pub another_leaves : (k : Lasting) (m : LastingMessage) → ((a : RecordOf k) → m ≢ message_of k a) → none_of k ≡ leaving_of k m
+another_leaves k m d = go (of_some m)
+  where
+    go : Of m → none_of k ≡ leaving_of k m
+    go (of j a e f) = apart (eqb (number (kind_of k)) (number (kind_of j))) refl
+      where
+        here : k ≡ j → (a : RecordOf j) → m ≢ message_of j a
+        here q = subst (λ (i : Lasting). (a : RecordOf i) → m ≢ message_of i a) q d
+
+        apart : (b : Bool) → eqb (number (kind_of k)) (number (kind_of j)) ≡ b → none_of k ≡ leaving_of k m
+        apart true q = absurd (here (same_kind k j (eqb-true _ _ q)) a e)
+        apart false q = sym (ap (held_of k) f ∙ other-replaced k j nothing (taken_of j a) (eqb-false _ _ q) ∙ of-nothing k)
 
 -- ---- what code makes of a brief answer
 
@@ -120,8 +175,8 @@ bare-155 size bytes = of-kind kinds.RegionWise Bare size bytes zeros-bare (subst
     s = take size bytes
 
     ends : (a : RegionWise) → BareCancel a → (t : Ending) → Bare (answer_for kinds.RegionWise (ended (form kinds.RegionWise).aside a t))
-    ends a b (ending.Extension e) = b
-    ends a b (ending.Refused r) = zeros-bare
+    ends a b (Ok e) = b
+    ends a b (Err r) = zeros-bare
 
     read : (o : Out RegionWise) → run_at regionWiseTable s 0 ≡ o → Bare (answer_for kinds.RegionWise (closed_at (form kinds.RegionWise) s o))
     read (out.taken a q) e = ends a (read_kept s 0 e).bare (ending_at true s q)

@@ -1,13 +1,12 @@
 -- Feeding: what an answer leaves of the held records, and what a feed answers and leaves of a slot.
-use Rattle.std.specs.Prelude.{ℕ, List}
+use Rattle.std.specs.Prelude.{ℕ, List, Option, Some, None}
 use Rattle.bits.specs.Refusals.{by_slot}
 use Rattle.kind_region_wise.specs.declared.RegionWise.{RegionWise}
 use Rattle.answers.specs.Listed.{named}
 use Rattle.answers.specs.Answer.{plain, refused_as}
 use Rattle.reader.specs.Reader.{answer_to}
-use Rattle.answers.specs.declared.kind.Named.{Named}
-use Rattle.answers.specs.declared.kind.Named.TheVariants.{Listed, Unlisted}
 use Rattle.answers.specs.declared.Answer.{Answer}
+use Rattle.answers.specs.declared.kind.Kind.{Kind}
 use Rattle.answers.specs.declared.Outcome.{Outcome}
 use Rattle.answers.specs.declared.Outcome.TheVariants.{Taken, SetAside, Refused}
 use Rattle.answers.specs.declared.kind.LastingMessage.{LastingMessage}
@@ -45,9 +44,9 @@ unfoldable pub held_after : Held → Answer → Held
 held_after h a = held_by h a.outcome a.message a.beside.region_wise
 
 -- 8 comes with the zeros of the kind asked for, and with no fields where that is none of those listed
-abbrev pub shut_as : Named → Answer
-shut_as (Listed k) = refused_as k by_slot
-shut_as Unlisted = plain (Refused by_slot) Nothing 0
+abbrev pub shut_as : Option Kind → Answer
+shut_as (Some k) = refused_as k by_slot
+shut_as None = plain (Refused by_slot) Nothing 0
 
 unfoldable pub shut_answer : ℕ → Answer
 shut_answer kind = shut_as (named kind)

@@ -6,10 +6,12 @@ pub mod filling;
 ghost use Rattle.std.specs.Prelude.{◌≡◌};
 ghost use Rattle.feeding.specs.Feed.{held_lasting, held_with, held_by, shut_answer, feeding, fed_to};
 
-use answers::kind::{LastingMessage, Message, Named};
+use answers::kind::{Kind, LastingMessage, Message};
 use answers::{Answer, Outcome};
 use bits::refusal::Refusal;
-use held::Held;
+use held::{
+    Held, HeldEquirectangular, HeldFramePacking, HeldOrientation, HeldRegionWise, HeldRotation,
+};
 use kind_region_wise::RegionWise;
 use reader::payload;
 use slots::{Slot, Slots};
@@ -19,11 +21,11 @@ fn held_lasting(held: Held, lasting: LastingMessage, region_wise: RegionWise) ->
     ensures { result ≡ held_lasting held lasting region_wise }
 {
     match lasting {
-        LastingMessage::FramePacking(x) => held.with_frame_packing(x),
-        LastingMessage::Orientation(x) => held.with_orientation(x),
-        LastingMessage::Equirectangular(x) => held.with_equirectangular(x),
-        LastingMessage::Rotation(x) => held.with_rotation(x),
-        LastingMessage::RegionWise => held.with_region_wise(region_wise),
+        LastingMessage::FramePacking(x) => held.with::<HeldFramePacking>(x),
+        LastingMessage::Orientation(x) => held.with::<HeldOrientation>(x),
+        LastingMessage::Equirectangular(x) => held.with::<HeldEquirectangular>(x),
+        LastingMessage::Rotation(x) => held.with::<HeldRotation>(x),
+        LastingMessage::RegionWise => held.with::<HeldRegionWise>(region_wise),
     }
 }
 
@@ -52,61 +54,36 @@ fn held_by(held: Held, outcome: Outcome, message: Message, region_wise: RegionWi
 fn shut(kind: u64) -> Answer
     ensures { result ≡ shut_answer kind }
 {
-    let named = Named::by(kind);
-    let Named::Listed(k) = named else {
-        return Answer::plain(Outcome::Refused(Refusal::slot()), Message::Nothing, 0);
-    };
-    Answer::refused(k, Refusal::slot())
-}
-
-// The reader's answer, and the slot after it.
-#[derive(Clone, Copy)]
-pub struct FedSlot {
-    pub answer: Answer,
-    pub slot: Slot,
+    match Kind::try_from(kind) {
+        Ok(k) => Answer::refused(k, Refusal::slot()),
+        Err(_) => Answer::plain(Outcome::Refused(Refusal::slot()), Message::Nothing, 0),
+    }
 }
 
 // The slot is judged before anything is read.
-pub fn feed_slot(here: Slot, kind: u64, size: u64, bytes: &[u8]) -> FedSlot
-    ensures { (result.slot, result.answer) ≡ feeding kind size bytes.now here }
+pub fn feed_slot(here: &mut Slot, kind: u64, size: u64, bytes: &[u8]) -> Answer
+    ensures { (here.new, result) ≡ feeding kind size bytes.now here.old }
 {
-    if here.is_open() {
-        let answer = payload::read(kind, size, bytes);
-        let held = here.held;
-        let outcome = answer.outcome;
-        let message = answer.message;
-        let region_wise = answer.beside.region_wise;
-        let left = held_by(held, outcome, message, region_wise);
-        return FedSlot {
-            answer,
-            slot: here.holding(left),
-        };
+    if !here.is_open() {
+        return shut(kind);
     }
-    FedSlot {
-        answer: shut(kind),
-        slot: here,
-    }
+    let answer = payload::read(kind, size, bytes);
+    let left = held_by(
+        here.held,
+        answer.outcome,
+        answer.message,
+        answer.beside.region_wise,
+    );
+    *here = here.holding(left);
+    answer
 }
 
-// The reader's answer, and the slots after it.
-#[derive(Clone, Copy)]
-pub struct Fed {
-    pub answer: Answer,
-    pub slots: Slots,
-}
-
-pub fn feed(mut slots: Slots, n: u64, kind: u64, size: u64, bytes: &[u8]) -> Fed
-    ensures { (result.slots, result.answer) ≡ fed_to slots n kind size bytes.now }
+pub fn feed(slots: &mut Slots, n: u64, kind: u64, size: u64, bytes: &[u8]) -> Answer
+    ensures { (slots.new, result) ≡ fed_to slots.old n kind size bytes.now }
 {
     if 8 <= n {
-        let answer = shut(kind);
-        return Fed { answer, slots };
+        return shut(kind);
     }
-    let at = n as usize;
-    let here = slots.slots[at];
-    let fed = feed_slot(here, kind, size, bytes);
-    let answer = fed.answer;
-    let left = fed.slot;
-    slots.slots[at] = left;
-    Fed { answer, slots }
+    let here = &mut slots.slots[n as usize];
+    feed_slot(here, kind, size, bytes)
 }

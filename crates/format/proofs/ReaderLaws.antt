@@ -1,4 +1,4 @@
--- Laws for readers over any format: elements with a rule, formats of one element, and answers of a value beside where the reading goes on.
+-- Laws for readers over any format: elements with a rule, and formats of one element.
 -- Assumes nothing.
 use Prim.Native.Nat.{ℕ, ◌^◌, ◌≤◌, ◌<◌}
 use mathlib.Core.Path.{◌≡◌, refl, sym, ap, ◌∙◌, subst}
@@ -6,25 +6,22 @@ use mathlib.Core.Bool.{Bool, true, false}
 use mathlib.Core.List.{List}
 use native.Mathlib.Omega.{arith}
 use lib.Dec.{leb}
-use borrow.Author.Tests.{le-leb, lt-leb, leb-true}
+use native.Mathlib.Nat.{pow-le-pow_right}
+use borrow.Author.Tests.{le-leb, lt-leb, leb-true, ne_eqb}
 use Rattle.bits.specs.Refusals.{broken, Verdict, fine, against}
-use Rattle.bits.specs.Out.{Out, taken, refused, after, refusal_in}
-use Rattle.bits.specs.Elements.{ue_at, shape_at}
-use Rattle.bits.specs.declared.refusal.Refusal.TheVariants.{Rule}
-use Rattle.bits.specs.declared.read.Onward.{Onward}
-use Rattle.bits.specs.declared.read.Onward.TheVariants.{Next, Refused}
+use Rattle.bits.specs.Out.{Out, taken, refused, after}
+use Rattle.bits.specs.Elements.{u_at, shape_at}
 use Rattle.bits.proofs.ElementLaws.{u-below}
 use Rattle.bits.proofs.Reading.{not_taken}
 use Rattle.format.specs.Format.{Element, handed, verdict, done}
 use Rattle.format.specs.Reading.{ruled, element_at, run_at}
 use Rattle.format.specs.Syntax.{u, ue, ◌at◌, ◌must◌, ◌unless◌, at_most}
 use Rattle.format.proofs.Steps.{judged-at, step, step-code, step-done}
-use Rattle.bits.specs.Answers.{onward_refusal}
 
 -- ---- an element's rule
 
 -- an element that was taken: its code was read, and its rule finds it fine
-taken-from : (e : Element) (s : List ℕ) (p : ℕ) {m q : ℕ} → element_at e s p ≡ taken m q → (c : ℕ) × (shape_at e.shape s p ≡ taken c q) × (handed e c ≡ m) × (verdict e c ≡ fine)
+pub taken-from : (e : Element) (s : List ℕ) (p : ℕ) {m q : ℕ} → element_at e s p ≡ taken m q → (c : ℕ) × (shape_at e.shape s p ≡ taken c q) × (handed e c ≡ m) × (verdict e c ≡ fine)
 taken-from e s p {m} {q} h = from-code (shape_at e.shape s p) refl (sym (judged-at e s p) ∙ h)
   where
     by-verdict : (v : Verdict) (c t : ℕ) → shape_at e.shape s p ≡ taken c t → verdict e c ≡ v → ruled v (handed e c) t ≡ taken m q
@@ -45,12 +42,6 @@ pub taken-below : (n : ℕ) (rule : ℕ → Verdict) (s : List ℕ) (p : ℕ) {v
 taken-below n rule s p e = let t = taken-from (u n must rule) s p e in subst (λ x. x < 2 ^ n) t.2 (u-below s p n t.1)
 
 -- at most n
-pub most-kept : (n v q : ℕ) → v ≤ n → ruled (at_most n v) v q ≡ taken v q
-most-kept n v q h = rw (le-leb v n h)
-
-pub most-broken : (n v q : ℕ) → n < v → ruled (at_most n v) v q ≡ refused Rule
-most-broken n v q h = rw (lt-leb v n h)
-
 pub at-most-fine : (n x : ℕ) → at_most n x ≡ fine → x ≤ n
 at-most-fine n x = go (leb x n) refl
   where
@@ -70,16 +61,14 @@ done-after R s (refused r) = refl
 pub one-element : {R : Type 0} (e : Element) (g : R → ℕ) (s : List ℕ) (p : ℕ) → run_at (e at g) s p ≡ element_at e s p
 one-element e g s p = step e g done s p ∙ done-after _ s (element_at e s p)
 
--- one with no rule
-pub one-ue : {R : Type 0} (g : R → ℕ) (s : List ℕ) (p : ℕ) → run_at (ue at g) s p ≡ ue_at s p
-one-ue g s p = step-code ue g done s p ∙ done-after _ s (ue_at s p)
+-- ---- what goals want
 
--- ---- an answer of a value beside where the reading goes on
+-- a number of n bits fits where there is room for n
+pub room-for : (s : List ℕ) (p n r : ℕ) {v q : ℕ} → n ≤ r → taken v q ≡ u_at s p n → v < 2 ^ r
+room-for s p n r {v} h e = omega (arith, u-below s p n (sym e), pow-le-pow_right {n = 2} (omega arith) h)
 
-abbrev pub beside : {A : Type 0} → Onward → A → Out A
-beside (Next c) a = taken a c.at
-beside (Refused r) a = refused r
+-- of a function that reads one element and judges it
+pub ruleset one_judged = (judged-at, le-leb, lt-leb, room-for)
 
-pub stopped-beside : {A : Type 0} (w : Onward) (a : A) → onward_refusal w ≡ refusal_in (beside w a)
-stopped-beside (Next c) a = refl
-stopped-beside (Refused r) a = refl
+-- of a reader, beside `reading`, where elements have rules
+pub ruleset judging = (step, one-element, at-most-kept, taken-below, ne_eqb)

@@ -1,20 +1,21 @@
--- How a reader's proof follows a format, read by read: a place right after a read knows what is left of the whole.
+-- What reading a format comes to, element after element, and from these laws a reader's proof.
 -- Assumes nothing.
-use Prim.Native.Nat.{ℕ, suc, ◌+◌}
+use Prim.Native.Nat.{ℕ, suc, ◌+◌, ◌^◌, ◌<◌}
 use mathlib.Core.Path.{◌≡◌, refl, sym, ap, ◌∙◌}
 use mathlib.Core.Bool.{Bool, true, false}
 use mathlib.Core.List.{List, [], ◌∷◌, ◌++◌, append_assoc, append-nil}
 use native.Mathlib.Omega.{arith}
 use Rattle.bits.specs.Bits.{from}
 use Rattle.bits.specs.Refusals.{Verdict, fine, against, refusal_of}
-use Rattle.bits.specs.Out.{Out, taken, refused, after, placed, refusal_in}
+use Rattle.bits.specs.Out.{Out, taken, refused, after, placed}
 use Rattle.bits.specs.Elements.{u_at, ue_at, shape_front, shape_at}
 use Rattle.bits.specs.Coding.{Shape, unsigned, exp_golomb}
 use Rattle.bits.specs.declared.refusal.Refusal.{Refusal}
 use Rattle.bits.proofs.BitLaws.{drop-from}
+use Rattle.bits.proofs.ElementLaws.{u-below}
 use Rattle.format.specs.Format.{Element, handed, verdict, Format, done, read, asks, ◌>>=◌, ◌of◌, zeros, all_zero}
 use Rattle.format.specs.Reading.{ruled, judged, element_front, element_at, run, run_at}
-use Rattle.format.specs.Syntax.{when_else, when, times}
+use Rattle.format.specs.Syntax.{when, times}
 
 -- ---- one reading after another
 
@@ -57,13 +58,6 @@ judged-at e s p =
     placed-judged e p (shape_front e.shape (from s p))
     ∙ ap (λ o. after o (λ c q. ruled (verdict e c) (handed e c) q)) (shape-at e.shape s p)
 
--- what an element comes to from what reading its code came to
-pub element-value : (e : Element) (s : List ℕ) (p : ℕ) {o : Out ℕ} {c q : ℕ} → o ≡ shape_at e.shape s p → o ≡ taken c q → element_at e s p ≡ ruled (verdict e c) (handed e c) q
-element-value e s p r g = judged-at e s p ∙ ap (λ o. after o (λ c q. ruled (verdict e c) (handed e c) q)) (sym r ∙ g)
-
-pub element-refused : (e : Element) (s : List ℕ) (p : ℕ) {o : Out ℕ} {t : Refusal} → o ≡ shape_at e.shape s p → o ≡ refused t → element_at e s p ≡ refused t
-element-refused e s p r g = judged-at e s p ∙ ap (λ o. after o (λ c q. ruled (verdict e c) (handed e c) q)) (sym r ∙ g)
-
 -- ---- the laws of `run_at`, which stays shut
 
 -- what follows, if the verdict is fine: of u(n), ue(v) and ignored bits, which have no rule, it always is
@@ -96,20 +90,6 @@ module _ {R A : Type 0} where
       go fine m q = refl
       go (against b) m q = refl
 
-  -- the element was read, and what follows it is left; or it was refused, and so is the whole: o is what reading it came to
-  module _ (e : Element) (g : R → ℕ) (k : ℕ → Format R A) (s : List ℕ) (p : ℕ) where
-    pub step-value : {m q : ℕ} → taken m q ≡ element_at e s p → run_at (read e g k) s p ≡ run_at (k m) s q
-    step-value l = rw (step e g k s p, ← l)
-
-    pub step-refused : {o : Out ℕ} {r t : Refusal} → o ≡ element_at e s p → o ≡ refused r → t ≡ refusal_in o → run_at (read e g k) s p ≡ refused t
-    step-refused l f h = rw (step e g k s p, ← l, h, f)
-
-    pub step-code-value : {c q : ℕ} → taken c q ≡ shape_at e.shape s p → run_at (read e g k) s p ≡ go_on (verdict e c) (run_at (k (handed e c)) s q)
-    step-code-value l = rw (step-code e g k s p, ← l)
-
-    pub step-code-refused : {o : Out ℕ} {r t : Refusal} → o ≡ shape_at e.shape s p → o ≡ refused r → t ≡ refusal_in o → run_at (read e g k) s p ≡ refused t
-    step-code-refused l f h = rw (step-code e g k s p, ← l, h, f)
-
   -- what a record must have to be written is passed over
   pub step-asks : (t : R → Bool) (f : Format R A) (s : List ℕ) (p : ℕ) → run_at (asks t f) s p ≡ run_at f s p
   unfolding run_at run
@@ -122,13 +102,6 @@ module _ {R A : Type 0} where
   pub step-no : {t : Bool} (f : Format R A) (s : List ℕ) (p : ℕ) → t ≡ false → run_at (when t f) s p ≡ taken (zeros f) p
   step-no f s p e = rw e (step-asks (all_zero f) (done (zeros f)) s p ∙ step-done R (zeros f) s p)
 
-  -- where something else stands for it
-  pub step_then : {t : Bool} (f : Format R A) (gone : R → Bool) (z : A) (s : List ℕ) (p : ℕ) → t ≡ true → run_at (when_else t f gone z) s p ≡ run_at f s p
-  step_then f gone z s p e = rw e
-
-  pub step-else : {t : Bool} (f : Format R A) (gone : R → Bool) (z : A) (s : List ℕ) (p : ℕ) → t ≡ false → run_at (when_else t f gone z) s p ≡ taken z p
-  step-else f gone z s p e = rw e (step-asks gone (done z) s p ∙ step-done R z s p)
-
 -- ---- a format put together from formats is read in that order
 
 pub step_part : {R A B : Type 0} (f : Format R A) (g : A → Format R B) (s : List ℕ) (p : ℕ) → run_at (f >>= g) s p ≡ after (run_at f s p) (λ a q. run_at (g a) s q)
@@ -140,15 +113,7 @@ step_part (read e h k) g s p =
     ∙ sym (after-after (element_at e s p) (λ m q. run_at (k m) s q) (λ a q. run_at (g a) s q))
     ∙ ap (λ o. after o (λ a q. run_at (g a) s q)) (sym (step e h k s p))
 
--- a part that may be absent, where more of the table follows
-module _ {R A B : Type 0} {t : Bool} (f : Format R A) (k : A → Format R B) (s : List ℕ) (p : ℕ) where
-  pub step-there : t ≡ true → run_at (when t f >>= k) s p ≡ run_at (f >>= k) s p
-  step-there e = rw e
-
-  pub step-absent : t ≡ false → run_at (when t f >>= k) s p ≡ run_at (k (zeros f)) s p
-  step-absent e = step_part (when t f) k s p ∙ ap (λ o. after o (λ a q. run_at (k a) s q)) (step-no f s p e)
-
--- and where more of the part that it stands in follows, and then more of the table
+-- a part that is there, and one that is absent, where more of the part that it stands in follows, and then more of the table
 module _ {R A B C : Type 0} {t : Bool} (f : Format R A) (g : A → Format R B) (k : B → Format R C) (s : List ℕ) (p : ℕ) where
   pub step-there-within : t ≡ true → run_at (when t f >>= g >>= k) s p ≡ run_at (f >>= g >>= k) s p
   step-there-within e = rw e
@@ -217,31 +182,11 @@ module _ {A : Type 0} (f : Format A A) (s : List ℕ) (n p : ℕ) where
         ∙ ap (λ o. after o (λ x t. after (run_at (times n left f) s t) (λ ys r. taken (xs ++ (x ∷ ys)) r))) e
         ∙ same_after (run_at (times n left f) s t) _ _ (λ ys r. ap (λ l. taken l r) (sym (append_assoc xs (x ∷ []) ys)))
 
--- ---- the places of a reader's proof
+-- ---- what goals want
 
--- right after a read that came to o: the whole, x, is o and then k
-pub record At {A : Type 0} (B : Type 0) (o : Out A) : Type 0 where
-  pub x : Out B
-  pub k : A → ℕ → Out B
-  pub is : x ≡ after o k
+-- a number of n bits is below 2 ^ n
+pub below-width : (s : List ℕ) (p n : ℕ) {v q : ℕ} → taken v q ≡ u_at s p n → v < 2 ^ n
+below-width s p n e = u-below s p n (sym e)
 
--- the first read
-abbrev pub start : {A B : Type 0} {o o' : Out A} (x : Out B) (k : A → ℕ → Out B) → o ≡ o' → x ≡ after o' k → At B o
-start x k e h = record { x = x; k = k; is = rw e h }
-
--- the next one, where the last gave a value
-abbrev pub next : {A A' B : Type 0} {o : Out A} {o₂ o' : Out A'} {v : A} {p : ℕ} (a : At B o) (k : A' → ℕ → Out B) → o ≡ taken v p → o₂ ≡ o' → a.k v p ≡ after o' k → At B o₂
-next a k g e h = record { x = a.x; k = k; is = a.is ∙ rw (g, e) h }
-
--- the last one gave a value: what is left of the whole comes to y
-pub last : {A B : Type 0} {o : Out A} {v : A} {p : ℕ} {y : Out B} (a : At B o) → o ≡ taken v p → a.k v p ≡ y → y ≡ a.x
-last a g e = sym (a.is ∙ rw g e)
-
--- where the ways with a part and without it meet, with y for it: what follows it is left
-abbrev pub meet : {R A B C D : Type 0} {o : Out D} {v : D} {q : ℕ} (t : Bool) (f : Format R A) (g : A → Format R B) (k : B → Format R C) (s : List ℕ) (p : ℕ)
-    (a : At C o) → o ≡ taken v q → a.k v q ≡ run_at (when t f >>= g >>= k) s p → (y : A) (r : ℕ) → a.x ≡ run_at (g y >>= k) s r → At C (taken y r)
-meet t f g k s p a e h y r l = record { x = a.x; k = λ y r. run_at (g y >>= k) s r; is = l }
-
--- it was refused, and so is the whole
-pub stop : {A B : Type 0} {o : Out A} {r t : Refusal} (a : At B o) → o ≡ refused r → t ≡ refusal_in o → refused t ≡ a.x
-stop a g f = sym (a.is ∙ rw (f, g))
+-- what the goals of a reader want
+pub ruleset reading = (step-code, step-asks, step-done, step_part, step_of, below-width)

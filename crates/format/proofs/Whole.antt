@@ -13,8 +13,8 @@ use Rattle.bits.specs.Bits.{from, bits_of}
 use Rattle.bits.specs.Refusals.{Breach, broken, too_many, refusal_of, OfElement, short, zeros, rule, regions}
 use Rattle.bits.specs.Out as out
 use Rattle.bits.specs.Tail.{tail_of, tail_at}
-use Rattle.bits.specs.declared.ending.Ending.{Ending}
-use Rattle.bits.specs.declared.ending.Ending.TheVariants.{Extension, Refused}
+use Rattle.bits.specs.Tail.{Ending}
+use Rattle.std.specs.Prelude.{Ok, Err}
 use Rattle.bits.specs.declared.refusal.Refusal.{Refusal}
 use Rattle.bits.specs.declared.refusal.Refusal.TheVariants.{Tail}
 use Rattle.bits.proofs.BitLaws.{drop-from}
@@ -62,13 +62,13 @@ tail_from s p = ap tail_of (drop-from s 0 p ∙ ap (from s) (zero-add p))
 -- how the payload s ends from bit p on
 abbrev pub ending_at : Bool → List ℕ → ℕ → Ending
 ending_at true s p = tail_at s p
-ending_at false s p = Extension 0
+ending_at false s p = Ok 0
 
 ending_at_lem : (b : Bool) (s : List ℕ) (p : ℕ) → ending b (drop p (bits_of s)) ≡ ending_at b s p
 ending_at_lem true s p = tail_from s p
 ending_at_lem false s p = refl
 
-ending-iff : (b : Bool) (rest : List Bool) (e : ℕ) → (ending b rest ≡ Extension e) ↔ Follows b rest e
+ending-iff : (b : Bool) (rest : List Bool) (e : ℕ) → (ending b rest ≡ Ok e) ↔ Follows b rest e
 ending-iff true rest e = tail-permitted rest e
 ending-iff false rest e = (λ h. cc, λ h. cc)
 
@@ -108,7 +108,7 @@ module _ {A : Type 0} where
       after a message rest split d false h = holds a 0 (record { message = message; rest = rest; split = split; coded = d; follows = subst (λ b. Follows b rest 0) (sym h) refl })
       after a message rest split d true h = by-tail (tail-seen rest)
         where
-          by-tail : ((e : ℕ) × (tail_of rest ≡ Extension e)) ⊎ (tail_of rest ≡ Refused Tail) → Seen k w
+          by-tail : ((e : ℕ) × (tail_of rest ≡ Ok e)) ⊎ (tail_of rest ≡ Err Tail) → Seen k w
           by-tail (inl t) = holds a t.0 (record { message = message; rest = rest; split = split; coded = d; follows = subst (λ b. Follows b rest t.0) (sym h) ((tail-permitted rest t.0).0 t.1) })
           by-tail (inr t) = tail (record { value = a; message = message; rest = rest; split = split; coded = d; can = h; none = (tail-refused rest).0 t })
 

@@ -10,3 +10,4 @@ pub mod Reading
 pub mod Whole
 pub mod Writing
 pub mod Faithful
+pub mod Readers

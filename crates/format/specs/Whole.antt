@@ -1,9 +1,7 @@
 -- Reading a whole payload: a message, and then what may follow it.
-use Rattle.std.specs.Prelude.{ℕ, Bool, true, false, List, drop}
+use Rattle.std.specs.Prelude.{ℕ, Bool, true, false, List, drop, Ok, Err}
 use Rattle.bits.specs.Out as out
-use Rattle.bits.specs.Tail.{tail_of}
-use Rattle.bits.specs.declared.ending.Ending.{Ending}
-use Rattle.bits.specs.declared.ending.Ending.TheVariants.{Extension, Refused}
+use Rattle.bits.specs.Tail.{Ending, tail_of}
 use Rattle.bits.specs.declared.refusal.Refusal.{Refusal}
 use Rattle.format.specs.Form.{Form}
 use Rattle.format.specs.Reading.{run}
@@ -17,7 +15,7 @@ pub data Reading (A : Type 0) : Type 0 where
 -- how a payload ends after its message; where a kind has no tail, all that is left is the message's own
 abbrev pub ending : Bool → List Bool → Ending
 ending true rest = tail_of rest
-ending false rest = Extension 0
+ending false rest = Ok 0
 
 module _ {A : Type 0} where
   -- 20 is judged last
@@ -27,8 +25,8 @@ module _ {A : Type 0} where
 
   -- after 7
   abbrev pub ended : (A → Bool) → A → Ending → Reading A
-  ended aside a (Extension e) = given (aside a) a e
-  ended aside a (Refused r) = refused r
+  ended aside a (Ok e) = given (aside a) a e
+  ended aside a (Err r) = refused r
 
   -- after the elements
   abbrev pub closed : Form A → List Bool → out.Out A → Reading A

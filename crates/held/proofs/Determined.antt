@@ -1,62 +1,52 @@
 -- Each public contract determines its result.
 -- Assumes nothing.
-use mathlib.Core.Path.{sym, ◌∙◌}
-use Rattle.bits.proofs.Determined.{Determines}
+use mathlib.Core.Path.{refl, sym, ◌∙◌}
+use contract.Lifetimes.{Lfts}
+use denote.Triple.Clauses.{AtExit}
+use borrow.Fn.Kinds.{ended_of}
+use Rattle.bits.proofs.Determined.{Determines, DeterminesAll}
+use mir.Syntax.{Dict}
+use denote.RattleType.{RattleType}
+use denote.Param.Laws.{Laws, IsCopy}
+use Rattle.std.specs.declared.clone.Clone as clone
+use Rattle.held.specs.declared.Held.{Held}
+use Rattle.held.specs.declared.HeldRecord as held-record
+use Rattle.held.proofs.Held.«with».Kinds as with-kinds
+use Rattle.held.proofs.Held.«with».Reads as with-reads
 use Rattle.held.proofs.Held.nothing.Kinds as nothing-kinds
 use Rattle.held.proofs.Held.nothing.Reads as nothing-reads
-use Rattle.held.proofs.Held.kept.Kinds as kept-kinds
-use Rattle.held.proofs.Held.kept.Reads as kept-reads
-use Rattle.held.proofs.Held.with_frame_packing.Kinds as with-frame-packing-kinds
-use Rattle.held.proofs.Held.with_frame_packing.Reads as with-frame-packing-reads
-use Rattle.held.proofs.Held.with_orientation.Kinds as with-orientation-kinds
-use Rattle.held.proofs.Held.with_orientation.Reads as with-orientation-reads
-use Rattle.held.proofs.Held.with_equirectangular.Kinds as with-equirectangular-kinds
-use Rattle.held.proofs.Held.with_equirectangular.Reads as with-equirectangular-reads
-use Rattle.held.proofs.Held.with_rotation.Kinds as with-rotation-kinds
-use Rattle.held.proofs.Held.with_rotation.Reads as with-rotation-reads
-use Rattle.held.proofs.Held.with_region_wise.Kinds as with-region-wise-kinds
-use Rattle.held.proofs.Held.with_region_wise.Reads as with-region-wise-reads
-use Rattle.held.proofs.HeldFramePacking.nothing.Kinds as frame-packing-nothing-kinds
-use Rattle.held.proofs.HeldFramePacking.nothing.Reads as frame-packing-nothing-reads
-use Rattle.held.proofs.HeldFramePacking.taken.Kinds as frame-packing-taken-kinds
-use Rattle.held.proofs.HeldFramePacking.taken.Reads as frame-packing-taken-reads
-use Rattle.held.proofs.HeldOrientation.nothing.Kinds as orientation-nothing-kinds
-use Rattle.held.proofs.HeldOrientation.nothing.Reads as orientation-nothing-reads
-use Rattle.held.proofs.HeldOrientation.taken.Kinds as orientation-taken-kinds
-use Rattle.held.proofs.HeldOrientation.taken.Reads as orientation-taken-reads
-use Rattle.held.proofs.HeldEquirectangular.nothing.Kinds as equirectangular-nothing-kinds
-use Rattle.held.proofs.HeldEquirectangular.nothing.Reads as equirectangular-nothing-reads
-use Rattle.held.proofs.HeldEquirectangular.taken.Kinds as equirectangular-taken-kinds
-use Rattle.held.proofs.HeldEquirectangular.taken.Reads as equirectangular-taken-reads
-use Rattle.held.proofs.HeldRotation.nothing.Kinds as rotation-nothing-kinds
-use Rattle.held.proofs.HeldRotation.nothing.Reads as rotation-nothing-reads
-use Rattle.held.proofs.HeldRotation.taken.Kinds as rotation-taken-kinds
-use Rattle.held.proofs.HeldRotation.taken.Reads as rotation-taken-reads
-use Rattle.held.proofs.HeldRegionWise.nothing.Kinds as region-wise-nothing-kinds
-use Rattle.held.proofs.HeldRegionWise.nothing.Reads as region-wise-nothing-reads
+use Rattle.held.proofs.Held.lapse.Kinds as lapse-kinds
+use Rattle.held.proofs.Held.lapse.Reads as lapse-reads
+use Rattle.held.proofs.HeldFramePackingHeldRecord.nothing.Kinds as frame-packing-nothing-kinds
+use Rattle.held.proofs.HeldFramePackingHeldRecord.nothing.Reads as frame-packing-nothing-reads
+use Rattle.held.proofs.HeldFramePackingHeldRecord.taken.Kinds as frame-packing-taken-kinds
+use Rattle.held.proofs.HeldFramePackingHeldRecord.taken.Reads as frame-packing-taken-reads
+use Rattle.held.proofs.HeldOrientationHeldRecord.nothing.Kinds as orientation-nothing-kinds
+use Rattle.held.proofs.HeldOrientationHeldRecord.nothing.Reads as orientation-nothing-reads
+use Rattle.held.proofs.HeldOrientationHeldRecord.taken.Kinds as orientation-taken-kinds
+use Rattle.held.proofs.HeldOrientationHeldRecord.taken.Reads as orientation-taken-reads
+use Rattle.held.proofs.HeldEquirectangularHeldRecord.nothing.Kinds as equirectangular-nothing-kinds
+use Rattle.held.proofs.HeldEquirectangularHeldRecord.nothing.Reads as equirectangular-nothing-reads
+use Rattle.held.proofs.HeldEquirectangularHeldRecord.taken.Kinds as equirectangular-taken-kinds
+use Rattle.held.proofs.HeldEquirectangularHeldRecord.taken.Reads as equirectangular-taken-reads
+use Rattle.held.proofs.HeldRotationHeldRecord.nothing.Kinds as rotation-nothing-kinds
+use Rattle.held.proofs.HeldRotationHeldRecord.nothing.Reads as rotation-nothing-reads
+use Rattle.held.proofs.HeldRotationHeldRecord.taken.Kinds as rotation-taken-kinds
+use Rattle.held.proofs.HeldRotationHeldRecord.taken.Reads as rotation-taken-reads
+use Rattle.held.proofs.HeldRegionWiseHeldRecord.nothing.Kinds as region-wise-nothing-kinds
+use Rattle.held.proofs.HeldRegionWiseHeldRecord.nothing.Reads as region-wise-nothing-reads
 use Rattle.held.proofs.HeldRegionWise.coded.Kinds as region-wise-coded-kinds
 use Rattle.held.proofs.HeldRegionWise.coded.Reads as region-wise-coded-reads
 
 pub nothing-determined : Determines 0 nothing-kinds.ps nothing-kinds.r nothing-reads.Post
 nothing-determined κs a x y s t p q = p ∙ sym q
 
-pub kept-determined : Determines 0 kept-kinds.ps kept-kinds.r kept-reads.Post
-kept-determined κs a x y s t p q = p ∙ sym q
+-- the first parameter, at exit
+abbrev left : (κs : Lfts 1) → AtExit (ended_of 1 lapse-kinds.ps lapse-kinds.r) κs → Held
+left κs s = s.0.now
 
-pub with-frame-packing-determined : Determines 0 with-frame-packing-kinds.ps with-frame-packing-kinds.r with-frame-packing-reads.Post
-with-frame-packing-determined κs a x y s t p q = p ∙ sym q
-
-pub with-orientation-determined : Determines 0 with-orientation-kinds.ps with-orientation-kinds.r with-orientation-reads.Post
-with-orientation-determined κs a x y s t p q = p ∙ sym q
-
-pub with-equirectangular-determined : Determines 0 with-equirectangular-kinds.ps with-equirectangular-kinds.r with-equirectangular-reads.Post
-with-equirectangular-determined κs a x y s t p q = p ∙ sym q
-
-pub with-rotation-determined : Determines 0 with-rotation-kinds.ps with-rotation-kinds.r with-rotation-reads.Post
-with-rotation-determined κs a x y s t p q = p ∙ sym q
-
-pub with-region-wise-determined : Determines 0 with-region-wise-kinds.ps with-region-wise-kinds.r with-region-wise-reads.Post
-with-region-wise-determined κs a x y s t p q = p ∙ sym q
+pub lapse-determined : DeterminesAll 1 lapse-kinds.ps lapse-kinds.r left lapse-reads.Post
+lapse-determined κs a x y s t p q = (refl, p ∙ sym q)
 
 pub frame-packing-nothing-determined : Determines 0 frame-packing-nothing-kinds.ps frame-packing-nothing-kinds.r frame-packing-nothing-reads.Post
 frame-packing-nothing-determined κs a x y s t p q = p ∙ sym q
@@ -87,3 +77,9 @@ region-wise-nothing-determined κs a x y s t p q = p ∙ sym q
 
 pub region-wise-coded-determined : Determines 0 region-wise-coded-kinds.ps region-wise-coded-kinds.r region-wise-coded-reads.Post
 region-wise-coded-determined κs a x y s t p q = p ∙ sym q
+
+-- of any kind
+module _ (T : RattleType) (R : RattleType) (L : Laws T) (L' : Laws R) (C : IsCopy T) (C' : IsCopy R)
+    (H : held-record.Ghosts T.Denot R.Denot) (H-dict : Dict) (K : clone.Ghosts T.Denot) (K-dict : Dict) (K' : clone.Ghosts R.Denot) (K'-dict : Dict) where
+  pub with-determined : Determines 2 (with-kinds.ps T R L L' C C') (with-kinds.r T R L L' C C') (with-reads.Post T R L L' C C' H H-dict K K-dict K' K'-dict)
+  with-determined κs a x y s t p q = p ∙ sym q

@@ -70,6 +70,13 @@ of-replaced equirectangular h x = refl
 of-replaced rotation h x = refl
 of-replaced region_wise h x = refl
 
+pub held_same : (k : Lasting) (h : Held) → replaced k h (held_of k h) ≡ h
+held_same frame_packing h = refl
+held_same orientation h = refl
+held_same equirectangular h = refl
+held_same rotation h = refl
+held_same region_wise h = refl
+
 -- ---- replacing one leaves the others: with the old one of its kind, they are all that was held
 
 abbrev restored : (j : Lasting) (h : Held) → Held → (k : Lasting) → HeldOf k

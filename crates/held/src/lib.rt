@@ -4,8 +4,23 @@
 
 ghost use Rattle.std.specs.Prelude.{◌≡◌, eqb, if◌then◌else◌};
 ghost use Rattle.kind_region_wise.specs.RegionWise.{BareCancel};
-ghost use Rattle.held.specs.Lasting.{frame_packing, orientation, equirectangular, rotation, region_wise};
-ghost use Rattle.held.specs.Held.{none_of, taken_of, kept_of, nothing, kept, took};
+ghost use Rattle.answers.specs.Listed.{zeros};
+ghost use Rattle.held.specs.Lasting.{
+  Lasting,
+  frame_packing,
+  orientation,
+  equirectangular,
+  rotation,
+  region_wise,
+  kind_of,
+  RecordOf,
+  HeldOf,
+  cancel_of,
+  persistence_of,
+  marked,
+  value_of,
+};
+ghost use Rattle.held.specs.Held.{none_of, taken_of, kept_of, held_of, nothing, kept, replaced, took};
 
 use kind_equirectangular::Equirectangular;
 use kind_frame_packing::FramePacking;
@@ -13,7 +28,66 @@ use kind_orientation::Orientation;
 use kind_region_wise::RegionWise;
 use kind_rotation::Rotation;
 
-// on is 1 where a record is held, here and below. A record of zeros is a message too, so nothing has a mark of its own.
+// What is held of one kind: a mark, 1 where a record is held, and the record. A record of zeros is a message too, so nothing has a mark of its
+// own. An exported function takes no generic struct, so each kind has a struct of its own, and says of it where its record's flags are; what
+// becomes of it is said once.
+pub trait HeldRecord: Copy {
+    type Record: Copy;
+
+    ghost kind: { Lasting };
+
+    ghost as_record: { Self.Record → RecordOf kind };
+
+    ghost as_held: { Self → HeldOf kind };
+
+    fn marked(on: u8, value: Self::Record) -> Self
+        ensures { as_held result ≡ marked kind on (as_record value) };
+
+    fn zero() -> Self::Record
+        ensures { as_record result ≡ zeros (kind_of kind) };
+
+    fn cancel_flag(x: &Self::Record) -> u8
+        ensures { result ≡ cancel_of kind (as_record x.now) };
+
+    fn persistence_flag(&self) -> u8
+        ensures { result ≡ persistence_of kind (value_of kind (as_held self.now)) };
+
+    // The one among the five.
+    fn among(held: &Held) -> &Self
+        ensures { as_held result.now ≡ held_of kind held.now };
+
+    // It becomes that one.
+    fn put(self, held: &mut Held)
+        ensures { held.new ≡ replaced kind held.old (as_held self) };
+
+    #[tactic(auto, unfolding(crate::specs::Held::none_of))]
+    fn nothing() -> Self
+        ensures { as_held result ≡ none_of kind }
+    {
+        Self::marked(0, Self::zero())
+    }
+
+    #[tactic(auto, unfolding(crate::specs::Held::taken_of))]
+    fn taken(x: Self::Record) -> Self
+        ensures { as_held result ≡ taken_of kind (as_record x) }
+    {
+        if Self::cancel_flag(&x) != 0 {
+            return Self::nothing();
+        }
+        Self::marked(1, x)
+    }
+
+    // What a picture leaves among the five, where it lies: one that stays is not written again.
+    #[tactic(auto, using(crate::proofs::HeldLaws::held_same), unfolding(crate::specs::Held::kept_of))]
+    fn lapse(held: &mut Held)
+        ensures { held.new ≡ replaced kind held.old (kept_of kind (held_of kind held.old)) }
+    {
+        if Self::among(held).persistence_flag() == 0 {
+            Self::nothing().put(held);
+        }
+    }
+}
+
 #[repr(C)]
 #[derive(Clone, Copy)]
 pub struct HeldFramePacking {
@@ -21,30 +95,37 @@ pub struct HeldFramePacking {
     pub value: FramePacking,
 }
 
-impl HeldFramePacking {
-    pub fn nothing() -> HeldFramePacking
-        ensures { result ≡ none_of frame_packing }
-    {
-        let value = FramePacking::zero();
-        HeldFramePacking { on: 0, value }
+impl HeldRecord for HeldFramePacking {
+    type Record = FramePacking;
+
+    ghost kind = { frame_packing };
+
+    ghost as_record = { λ x. x };
+
+    ghost as_held = { λ x. x };
+
+    fn marked(on: u8, value: FramePacking) -> HeldFramePacking {
+        HeldFramePacking { on, value }
     }
 
-    pub fn taken(x: FramePacking) -> HeldFramePacking
-        ensures { result ≡ taken_of frame_packing x }
-    {
-        if x.fp_arrangement_cancel_flag != 0 {
-            return HeldFramePacking::nothing();
-        }
-        HeldFramePacking { on: 1, value: x }
+    fn zero() -> FramePacking {
+        FramePacking::zero()
     }
 
-    fn kept(self) -> HeldFramePacking
-        ensures { result ≡ kept_of frame_packing self }
-    {
-        if self.value.layout.fp_arrangement_persistence_flag == 0 {
-            return HeldFramePacking::nothing();
-        }
-        self
+    fn cancel_flag(x: &FramePacking) -> u8 {
+        x.fp_arrangement_cancel_flag
+    }
+
+    fn persistence_flag(&self) -> u8 {
+        self.value.layout.fp_arrangement_persistence_flag
+    }
+
+    fn among(held: &Held) -> &HeldFramePacking {
+        &held.frame_packing
+    }
+
+    fn put(self, held: &mut Held) {
+        held.frame_packing = self;
     }
 }
 
@@ -55,30 +136,37 @@ pub struct HeldOrientation {
     pub value: Orientation,
 }
 
-impl HeldOrientation {
-    pub fn nothing() -> HeldOrientation
-        ensures { result ≡ none_of orientation }
-    {
-        let value = Orientation::zero();
-        HeldOrientation { on: 0, value }
+impl HeldRecord for HeldOrientation {
+    type Record = Orientation;
+
+    ghost kind = { orientation };
+
+    ghost as_record = { λ x. x };
+
+    ghost as_held = { λ x. x };
+
+    fn marked(on: u8, value: Orientation) -> HeldOrientation {
+        HeldOrientation { on, value }
     }
 
-    pub fn taken(x: Orientation) -> HeldOrientation
-        ensures { result ≡ taken_of orientation x }
-    {
-        if x.display_orientation_cancel_flag != 0 {
-            return HeldOrientation::nothing();
-        }
-        HeldOrientation { on: 1, value: x }
+    fn zero() -> Orientation {
+        Orientation::zero()
     }
 
-    fn kept(self) -> HeldOrientation
-        ensures { result ≡ kept_of orientation self }
-    {
-        if self.value.display_orientation_persistence_flag == 0 {
-            return HeldOrientation::nothing();
-        }
-        self
+    fn cancel_flag(x: &Orientation) -> u8 {
+        x.display_orientation_cancel_flag
+    }
+
+    fn persistence_flag(&self) -> u8 {
+        self.value.display_orientation_persistence_flag
+    }
+
+    fn among(held: &Held) -> &HeldOrientation {
+        &held.orientation
+    }
+
+    fn put(self, held: &mut Held) {
+        held.orientation = self;
     }
 }
 
@@ -89,30 +177,37 @@ pub struct HeldEquirectangular {
     pub value: Equirectangular,
 }
 
-impl HeldEquirectangular {
-    pub fn nothing() -> HeldEquirectangular
-        ensures { result ≡ none_of equirectangular }
-    {
-        let value = Equirectangular::zero();
-        HeldEquirectangular { on: 0, value }
+impl HeldRecord for HeldEquirectangular {
+    type Record = Equirectangular;
+
+    ghost kind = { equirectangular };
+
+    ghost as_record = { λ x. x };
+
+    ghost as_held = { λ x. x };
+
+    fn marked(on: u8, value: Equirectangular) -> HeldEquirectangular {
+        HeldEquirectangular { on, value }
     }
 
-    pub fn taken(x: Equirectangular) -> HeldEquirectangular
-        ensures { result ≡ taken_of equirectangular x }
-    {
-        if x.erp_cancel_flag != 0 {
-            return HeldEquirectangular::nothing();
-        }
-        HeldEquirectangular { on: 1, value: x }
+    fn zero() -> Equirectangular {
+        Equirectangular::zero()
     }
 
-    fn kept(self) -> HeldEquirectangular
-        ensures { result ≡ kept_of equirectangular self }
-    {
-        if self.value.erp_persistence_flag == 0 {
-            return HeldEquirectangular::nothing();
-        }
-        self
+    fn cancel_flag(x: &Equirectangular) -> u8 {
+        x.erp_cancel_flag
+    }
+
+    fn persistence_flag(&self) -> u8 {
+        self.value.erp_persistence_flag
+    }
+
+    fn among(held: &Held) -> &HeldEquirectangular {
+        &held.equirectangular
+    }
+
+    fn put(self, held: &mut Held) {
+        held.equirectangular = self;
     }
 }
 
@@ -123,30 +218,78 @@ pub struct HeldRotation {
     pub value: Rotation,
 }
 
-impl HeldRotation {
-    pub fn nothing() -> HeldRotation
-        ensures { result ≡ none_of rotation }
-    {
-        let value = Rotation::zero();
-        HeldRotation { on: 0, value }
+impl HeldRecord for HeldRotation {
+    type Record = Rotation;
+
+    ghost kind = { rotation };
+
+    ghost as_record = { λ x. x };
+
+    ghost as_held = { λ x. x };
+
+    fn marked(on: u8, value: Rotation) -> HeldRotation {
+        HeldRotation { on, value }
     }
 
-    pub fn taken(x: Rotation) -> HeldRotation
-        ensures { result ≡ taken_of rotation x }
-    {
-        if x.sphere_rotation_cancel_flag != 0 {
-            return HeldRotation::nothing();
-        }
-        HeldRotation { on: 1, value: x }
+    fn zero() -> Rotation {
+        Rotation::zero()
     }
 
-    fn kept(self) -> HeldRotation
-        ensures { result ≡ kept_of rotation self }
-    {
-        if self.value.sphere_rotation_persistence_flag == 0 {
-            return HeldRotation::nothing();
-        }
-        self
+    fn cancel_flag(x: &Rotation) -> u8 {
+        x.sphere_rotation_cancel_flag
+    }
+
+    fn persistence_flag(&self) -> u8 {
+        self.value.sphere_rotation_persistence_flag
+    }
+
+    fn among(held: &Held) -> &HeldRotation {
+        &held.rotation
+    }
+
+    fn put(self, held: &mut Held) {
+        held.rotation = self;
+    }
+}
+
+#[repr(C)]
+#[derive(Clone, Copy)]
+pub struct HeldRegionWise {
+    pub on: u8,
+    pub value: RegionWise,
+}
+
+impl HeldRecord for HeldRegionWise {
+    type Record = RegionWise;
+
+    ghost kind = { region_wise };
+
+    ghost as_record = { λ x. x };
+
+    ghost as_held = { λ x. x };
+
+    fn marked(on: u8, value: RegionWise) -> HeldRegionWise {
+        HeldRegionWise { on, value }
+    }
+
+    fn zero() -> RegionWise {
+        RegionWise::zero()
+    }
+
+    fn cancel_flag(x: &RegionWise) -> u8 {
+        x.rwp_cancel_flag
+    }
+
+    fn persistence_flag(&self) -> u8 {
+        self.value.rwp_persistence_flag
+    }
+
+    fn among(held: &Held) -> &HeldRegionWise {
+        &held.region_wise
+    }
+
+    fn put(self, held: &mut Held) {
+        held.region_wise = self;
     }
 }
 
@@ -160,31 +303,8 @@ fn mark(cancel: u8) -> u8
     1
 }
 
-#[repr(C)]
-#[derive(Clone, Copy)]
-pub struct HeldRegionWise {
-    pub on: u8,
-    pub value: RegionWise,
-}
-
 impl HeldRegionWise {
-    pub fn nothing() -> HeldRegionWise
-        ensures { result ≡ none_of region_wise }
-    {
-        let value = RegionWise::zero();
-        HeldRegionWise { on: 0, value }
-    }
-
-    fn taken(x: RegionWise) -> HeldRegionWise
-        ensures { result ≡ taken_of region_wise x }
-    {
-        if x.rwp_cancel_flag != 0 {
-            return HeldRegionWise::nothing();
-        }
-        HeldRegionWise { on: 1, value: x }
-    }
-
-    // The same of a message as it is coded: a cancel is its flag and nothing else, so that there are no two records to choose from, and no
+    // `taken` of a message as it is coded: a cancel is its flag and nothing else, so that there are no two records to choose from, and no
     // copy of either.
     pub fn coded(mut x: RegionWise) -> HeldRegionWise
         requires { BareCancel x }
@@ -193,15 +313,6 @@ impl HeldRegionWise {
         let on = mark(x.rwp_cancel_flag);
         x.rwp_cancel_flag = 0;
         HeldRegionWise { on, value: x }
-    }
-
-    fn kept(self) -> HeldRegionWise
-        ensures { result ≡ kept_of region_wise self }
-    {
-        if self.value.rwp_persistence_flag == 0 {
-            return HeldRegionWise::nothing();
-        }
-        self
     }
 }
 
@@ -216,6 +327,7 @@ pub struct Held {
 }
 
 impl Held {
+    #[tactic(auto, unfolding(crate::specs::Held::nothing))]
     pub fn nothing() -> Held
         ensures { result ≡ nothing }
     {
@@ -228,55 +340,23 @@ impl Held {
         }
     }
 
-    pub fn kept(self) -> Held
-        ensures { result ≡ kept self }
+    // What a picture leaves, kind by kind where it lies.
+    #[tactic(auto, unfolding(crate::specs::Held::kept))]
+    pub fn lapse(&mut self)
+        ensures { self.new ≡ kept self.old }
     {
-        let frame_packing = self.frame_packing;
-        let orientation = self.orientation;
-        let equirectangular = self.equirectangular;
-        let rotation = self.rotation;
-        let region_wise = self.region_wise;
-        Held {
-            frame_packing: frame_packing.kept(),
-            orientation: orientation.kept(),
-            equirectangular: equirectangular.kept(),
-            rotation: rotation.kept(),
-            region_wise: region_wise.kept(),
-        }
+        HeldFramePacking::lapse(self);
+        HeldOrientation::lapse(self);
+        HeldEquirectangular::lapse(self);
+        HeldRotation::lapse(self);
+        HeldRegionWise::lapse(self);
     }
 
-    pub fn with_frame_packing(mut self, x: FramePacking) -> Held
-        ensures { result ≡ took frame_packing self x }
+    // After a taken message of one kind: the others stay.
+    pub fn with<H: HeldRecord>(mut self, x: H::Record) -> Held
+        ensures { result ≡ took H.kind self (H.as_record x) }
     {
-        self.frame_packing = HeldFramePacking::taken(x);
-        self
-    }
-
-    pub fn with_orientation(mut self, x: Orientation) -> Held
-        ensures { result ≡ took orientation self x }
-    {
-        self.orientation = HeldOrientation::taken(x);
-        self
-    }
-
-    pub fn with_equirectangular(mut self, x: Equirectangular) -> Held
-        ensures { result ≡ took equirectangular self x }
-    {
-        self.equirectangular = HeldEquirectangular::taken(x);
-        self
-    }
-
-    pub fn with_rotation(mut self, x: Rotation) -> Held
-        ensures { result ≡ took rotation self x }
-    {
-        self.rotation = HeldRotation::taken(x);
-        self
-    }
-
-    pub fn with_region_wise(mut self, x: RegionWise) -> Held
-        ensures { result ≡ took region_wise self x }
-    {
-        self.region_wise = HeldRegionWise::taken(x);
+        H::taken(x).put(&mut self);
         self
     }
 }

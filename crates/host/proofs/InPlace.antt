@@ -10,7 +10,7 @@ use lib.ListN.{get_or, set}
 use borrow.Author.Tests.{eq-eqb, ne_eqb}
 use Rattle.held.specs.Lasting.{Lasting, frame_packing, orientation, equirectangular, rotation, region_wise, HeldOf, kind_of, persistence_of, value_of}
 use Rattle.held.specs.Held.{none_of, kept_of, held_of, kept, replaced}
-use Rattle.held.specs.declared.Held.{Held}
+use Rattle.held.proofs.HeldLaws.{held_same}
 use Rattle.slots.specs.Slots.{Eight, is_open, holding, slot_at, with_slot}
 use Rattle.slots.specs.declared.Slot.{Slot}
 use Rattle.slots.specs.declared.Slots.{Slots}
@@ -27,13 +27,6 @@ use Rattle.host.proofs.FeedClaims.{untaken, taken}
 abbrev pub drops : Lasting → Slot → Slot
 drops k s = holding s (replaced k s.held (kept_of k (held_of k s.held)))
 
-held-same : (k : Lasting) (h : Held) → replaced k h (held_of k h) ≡ h
-held-same frame_packing h = refl
-held-same orientation h = refl
-held-same equirectangular h = refl
-held-same rotation h = refl
-held-same region_wise h = refl
-
 module _ (k : Lasting) (s : Slot) where
   pub dropped : persistence_of k (value_of k (held_of k s.held)) ≡ 0 → drops k s ≡ holding s (replaced k s.held (none_of k))
   unfolding kept_of
@@ -41,7 +34,7 @@ module _ (k : Lasting) (s : Slot) where
 
   pub stayed : persistence_of k (value_of k (held_of k s.held)) ≢ 0 → drops k s ≡ s
   unfolding kept_of holding
-  stayed p = rw (ne_eqb _ _ p, held-same k s.held)
+  stayed p = rw (ne_eqb _ _ p, held_same k s.held)
 
 -- after the five, one after the other
 all-dropped : (s : Slot) → drops region_wise (drops rotation (drops equirectangular (drops orientation (drops frame_packing s)))) ≡ holding s (kept s.held)

@@ -6,20 +6,19 @@ use mathlib.Core.Path.{◌≡◌, refl, sym, ap, ◌∙◌}
 use mathlib.Core.Logic.{◌≢◌, ◌⊎◌, inl, inr}
 use mathlib.Core.Bool.{true, false}
 use mathlib.Core.List.{List}
+use Rattle.std.specs.Prelude.{Option, Some, None}
 use Rattle.bits.specs.Refusals.{by_slot}
 use Rattle.bits.proofs.BitLaws.{below}
+use Rattle.answers.specs.declared.kind.Kind.{Kind}
 use Rattle.answers.specs.Listed.{number, is_held, named}
-use Rattle.answers.specs.declared.kind.Named.{Named}
-use Rattle.answers.specs.declared.kind.Named.TheVariants.{Listed, Unlisted}
 use Rattle.reader.specs.Reader.{answer_to}
 use Rattle.held.specs.Lasting.{Lasting, kind_of}
 use Rattle.held.specs.Held.{nothing, kept, replaced}
 use Rattle.held.specs.declared.Held.{Held}
-use Rattle.slots.specs.Slots.{refused, fresh_slot, closed_slot, is_open, holding, slot_at, with_slot}
-use Rattle.slots.specs.declared.Answer.TheVariants.{Done}
+use Rattle.slots.specs.Slots.{done, refused, fresh_slot, closed_slot, is_open, holding, slot_at, with_slot, lifted}
 use Rattle.slots.specs.declared.Slot.{Slot}
 use Rattle.slots.specs.declared.Slots.{Slots}
-use Rattle.slots.proofs.Laws.{where-open, where-shut, holding-same, with-same, lifted-within, lifted-past}
+use Rattle.slots.proofs.Laws.{where-open, where-shut, holding-same, with-same, lifted-within, lifted-past, lifted-said}
 use Rattle.feeding.specs.Feed.{held_after, shut_as, shut_answer}
 use Rattle.feeding.specs.Filling.{filling}
 use Rattle.feeding.proofs.FeedLaws.{feed-unheld}
@@ -29,7 +28,7 @@ use Rattle.region_table.specs.Table.{table_of_held, tabling, table_in}
 use Rattle.isolation.specs.Runs.{Call, opens, closes, sequences, pictures, feeds, slot_of, Reply, said, shown, read, replying, turn, missing}
 use Rattle.host.specs.Seen.{Seen, called, fed, pictured, seen, c_step}
 
-abbrev in_seen : Slots × Reply → Slots × Seen
+abbrev pub in_seen : Slots × Reply → Slots × Seen
 in_seen w = (w.0, seen w.1)
 
 -- ---- any call
@@ -54,41 +53,46 @@ module _ (s : Slots) (c : Call) where
       go (inl h) = stays h (missing c) q
       go (inr h) = past h
 
+-- what code leaves that makes the call on the eight and says its answer
+pub seen_by : {A : Type 0} (say : A → Reply) (call : Slot → Slot × A) (missing : A) (s t : Slots) (n : ℕ) (a : A) → ◌≡◌ {A = Slots × A} (t, a) (lifted call missing s n)
+    → ◌≡◌ {A = Slots × Seen} (t, seen (say a)) (in_seen (lifted (λ x. replying say (call x)) (say missing) s n))
+seen_by {A} say call missing s t n a e = ap (λ (w : Slots × A). (w.0, seen (say w.1))) e ∙ ap in_seen (sym (lifted-said say call missing s n))
+
 -- ---- each call
 
 module _ (s : Slots) (n : ℕ) where
   pub opens-anew : n < 8 → ◌≡◌ {A = Slots × Seen} (with_slot s n fresh_slot, called 0) (c_step s (opens n))
-  opens-anew h = leaves s (opens n) h fresh_slot (said Done) refl
+  opens-anew h = leaves s (opens n) h fresh_slot (said done) refl
 
   -- of a closed slot
   module _ (o : is_open (slot_at s n) ≡ false) where
     pub closes-shut : ◌≡◌ {A = Slots × Seen} (s, called 8) (c_step s (closes n))
-    closes-shut = shuts s (closes n) (ap (replying said) (where-shut (slot_at s n) refused (closed_slot, Done) o))
+    closes-shut = shuts s (closes n) (ap (replying said) (where-shut (slot_at s n) refused (closed_slot, done) o))
 
     pub sequences-shut : ◌≡◌ {A = Slots × Seen} (s, called 8) (c_step s (sequences n))
-    sequences-shut = shuts s (sequences n) (ap (replying said) (where-shut (slot_at s n) refused (fresh_slot, Done) o))
+    sequences-shut = shuts s (sequences n) (ap (replying said) (where-shut (slot_at s n) refused (fresh_slot, done) o))
 
     pub pictures-shut : ◌≡◌ {A = Slots × Seen} (s, pictured 8 nothing) (c_step s (pictures n))
-    pictures-shut = shuts s (pictures n) (ap (replying shown) (where-shut (slot_at s n) (refused, nothing) (holding (slot_at s n) (kept (slot_at s n).held), (Done, (slot_at s n).held)) o))
+    pictures-shut = shuts s (pictures n) (ap (replying shown) (where-shut (slot_at s n) (refused, nothing) (holding (slot_at s n) (kept (slot_at s n).held), (done, (slot_at s n).held)) o))
 
   -- of an open one
   module _ (h : n < 8) (o : is_open (slot_at s n) ≡ true) where
     pub closes-open : ◌≡◌ {A = Slots × Seen} (with_slot s n closed_slot, called 0) (c_step s (closes n))
-    closes-open = leaves s (closes n) h closed_slot (said Done) (ap (replying said) (where-open (slot_at s n) refused (closed_slot, Done) o))
+    closes-open = leaves s (closes n) h closed_slot (said done) (ap (replying said) (where-open (slot_at s n) refused (closed_slot, done) o))
 
     pub sequences-open : ◌≡◌ {A = Slots × Seen} (with_slot s n fresh_slot, called 0) (c_step s (sequences n))
-    sequences-open = leaves s (sequences n) h fresh_slot (said Done) (ap (replying said) (where-open (slot_at s n) refused (fresh_slot, Done) o))
+    sequences-open = leaves s (sequences n) h fresh_slot (said done) (ap (replying said) (where-open (slot_at s n) refused (fresh_slot, done) o))
 
     pub pictures-open : ◌≡◌ {A = Slots × Seen} (with_slot s n (holding (slot_at s n) (kept (slot_at s n).held)), pictured 0 (slot_at s n).held) (c_step s (pictures n))
     pictures-open =
-        leaves s (pictures n) h (holding (slot_at s n) (kept (slot_at s n).held)) (shown (Done, (slot_at s n).held))
-        (ap (replying shown) (where-open (slot_at s n) (refused, nothing) (holding (slot_at s n) (kept (slot_at s n).held), (Done, (slot_at s n).held)) o))
+        leaves s (pictures n) h (holding (slot_at s n) (kept (slot_at s n).held)) (shown (done, (slot_at s n).held))
+        (ap (replying shown) (where-open (slot_at s n) (refused, nothing) (holding (slot_at s n) (kept (slot_at s n).held), (done, (slot_at s n).held)) o))
 
 -- ---- a feed
 
-shut-seen : (x : Named) → seen (read (shut_as x)) ≡ fed 8 0
-shut-seen (Listed k) = refl
-shut-seen Unlisted = refl
+shut-seen : (x : Option Kind) → seen (read (shut_as x)) ≡ fed 8 0
+shut-seen (Some k) = refl
+shut-seen None = refl
 
 fed-8 : (kind : ℕ) → seen (read (shut_answer kind)) ≡ fed 8 0
 unfolding shut_answer

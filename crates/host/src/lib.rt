@@ -10,7 +10,6 @@ ghost use Rattle.lent.specs.Lent.{left};
 ghost use Rattle.record_row.specs.Handing.{wrote_fields};
 ghost use Rattle.host.specs.Part.{part_of};
 
-use answers::Rest;
 use reader::brief::brief;
 use reader::verdict::number;
 
@@ -43,17 +42,14 @@ pub struct Part {
 pub extern "C" fn bruskelde_part(kind: u64, size: u64, bytes: &[u8]) -> Part
     ensures { result ≡ part_of kind size bytes.now }
 {
-    let brief = brief(kind, size, bytes);
-    let rest = brief.rest;
-    let Rest::From(at) = rest else {
-        return Part {
+    match brief(kind, size, bytes).rest {
+        Some(start) => Part {
+            offset: start as u64,
+            length: size - start as u64,
+        },
+        None => Part {
             offset: 0,
             length: 0,
-        };
-    };
-    let offset = at as u64;
-    Part {
-        offset,
-        length: size - offset,
+        },
     }
 }

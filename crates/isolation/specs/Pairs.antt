@@ -6,8 +6,7 @@ use Rattle.format.specs.Holds.{Holds, Follows}
 use Rattle.format.specs.Varied.{Variation}
 use Rattle.answers.specs.Listed.{Record, form, number}
 use Rattle.answers.specs.declared.kind.Kind.{Kind}
-use Rattle.slots.specs.Slots.{fresh_slot, slot_at}
-use Rattle.slots.specs.declared.Answer.TheVariants.{Done}
+use Rattle.slots.specs.Slots.{done, fresh_slot, slot_at}
 use Rattle.slots.specs.declared.Slots.{Slots}
 use Rattle.isolation.specs.Runs.{Call, feeds, tables, said, turn, step, on, blind}
 
@@ -50,4 +49,4 @@ Pairs cs ds = Pairwise Pair cs ds
 -- The runs cs and ds, from s and t, give the same at slot k: every reply but for the extension's length, every row written, and what the
 -- slot holds; and each is what its own calls, xs and ys, give on a fresh slot alone.
 abbrev pub Isolated : (k : ℕ) (s t : Slots) (cs ds xs ys : List Call) → Type 0
-Isolated k s t cs ds xs ys = Same step turn (on k) (λ z. slot_at z k) blind fresh_slot (said Done) s t cs ds xs ys
+Isolated k s t cs ds xs ys = Same step turn (on k) (λ z. slot_at z k) blind fresh_slot (said done) s t cs ds xs ys

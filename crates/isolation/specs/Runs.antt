@@ -1,6 +1,6 @@
 -- Calls, on one slot alone and on one of the eight slots, and runs of them. `turn` and `step` cite the definitions that the functions'
 -- contracts cite.
-use Rattle.std.specs.Prelude.{ℕ, Bool, ◌≢◌, List, length, eqb}
+use Rattle.std.specs.Prelude.{Ok, Err, ℕ, Bool, ◌≢◌, List, length, eqb}
 use Rattle.bits.specs.Refusals.{by_slot}
 use Rattle.runs.specs.Run as runs
 use Rattle.region_table.specs.Rows.{Table, refuses}
@@ -8,9 +8,7 @@ use Rattle.answers.specs.declared.Answer as reader
 use Rattle.answers.specs.declared.Outcome.TheVariants.{Taken}
 use Rattle.held.specs.Held.{nothing}
 use Rattle.held.specs.declared.Held.{Held}
-use Rattle.slots.specs.Slots.{refused, opening, closing, sequencing, picturing, lifted}
-use Rattle.slots.specs.declared.Answer.{Answer}
-use Rattle.slots.specs.declared.Answer.TheVariants.{Done, Refused}
+use Rattle.slots.specs.Slots.{Answer, refused, opening, closing, sequencing, picturing, lifted}
 use Rattle.slots.specs.declared.Slot.{Slot}
 use Rattle.slots.specs.declared.Slots.{Slots}
 use Rattle.feeding.specs.Feed.{shut_answer, feeding}
@@ -39,10 +37,10 @@ pub data Reply : Type 0 where
 
 -- a call so answered is refused or set aside, or writes a table
 abbrev pub Unchanging : Reply → Type 0
-Unchanging (said Done) = ⊥
-Unchanging (said (Refused why)) = Unit {0}
-Unchanging (shown (Done, h)) = ⊥
-Unchanging (shown (Refused why, h)) = Unit {0}
+Unchanging (said (Ok u)) = ⊥
+Unchanging (said (Err why)) = Unit {0}
+Unchanging (shown (Ok u, h)) = ⊥
+Unchanging (shown (Err why, h)) = Unit {0}
 Unchanging (read a) = a.outcome ≢ Taken
 Unchanging (tabled t) = Unit {0}
 

@@ -1,11 +1,8 @@
 -- Kind 165: H.274 8.23.1, alpha_channel_info( payloadSize ).
 use Rattle.std.specs.Prelude.{◌+◌, eqb}
-use Rattle.bits.specs.Out.{Out, taken, refused}
 use Rattle.format.specs.Format.{Format, done, ◌>>=◌}
 use Rattle.format.specs.Syntax.{u, ◌at◌, when}
 use Rattle.kind_alpha.specs.declared.Alpha.{Alpha}
-use Rattle.kind_alpha.specs.declared.AlphaRead.{AlphaRead}
-use Rattle.kind_alpha.specs.declared.AlphaRead.TheVariants.{Taken, Refused}
 
 abbrev pub table : Format Alpha Alpha
 table = do
@@ -33,7 +30,3 @@ table = do
 -- the table under a name that stays shut: callers go by laws
 unfoldable pub alpha : Format Alpha Alpha
 alpha = table
-
-abbrev pub out_of : AlphaRead → Out Alpha
-out_of (Taken a c) = taken a c.at
-out_of (Refused r) = refused r

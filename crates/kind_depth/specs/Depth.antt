@@ -1,19 +1,12 @@
 -- Kind 177: H.274 8.22.1, depth_representation_info( payloadSize ), with its element, printed as 8.2.2.1.1.
 use Rattle.std.specs.Prelude.{ℕ, ◌+◌, ◌-◌, ◌&&◌, ◌||◌, List, replicate, leb, eqb}
-use Rattle.bits.specs.Out.{Out, taken, refused}
-use Rattle.bits.specs.declared.read.Onward.TheVariants.{Next, Refused}
-use Rattle.format.specs.Format.{Format, done, asks, ◌>>=◌, ◌of◌, zeros, all_zero}
+use Rattle.format.specs.Format.{Format, done, asks, ◌>>=◌, ◌of◌, all_zero}
 use Rattle.format.specs.Syntax.{u, ue, ◌at◌, ◌must◌, at_most, when_else, when, each, listed}
 use Rattle.numbers.specs.Depth.{depth_number}
 use Rattle.numbers.specs.declared.depth.DepthNumber.TheVariants.{Absent}
 use Rattle.kind_depth.specs.declared.element.DepthValue.{DepthValue}
-use Rattle.kind_depth.specs.declared.element.ElementRead.{ElementRead}
-use Rattle.kind_depth.specs.declared.element.ElementRead.TheVariants as element-read
 use Rattle.kind_depth.specs.declared.model.Model.{Model}
-use Rattle.kind_depth.specs.declared.model.ModelRead.{ModelRead}
-use Rattle.kind_depth.specs.declared.model.NumbersRead.{NumbersRead}
 use Rattle.kind_depth.specs.declared.Depth.{Depth}
-use Rattle.kind_depth.specs.declared.DepthRead.{DepthRead}
 
 -- ---- depth_rep_info_element( OutSign, OutExp, OutMantissa, OutManLen )
 
@@ -54,7 +47,20 @@ listed_number = ue must at_most 65535 at (λ x. x)
 abbrev pub model_of : ℕ → List ℕ → Model
 model_of count numbers = record { count = count; numbers = numbers }
 
+-- the reference view, which is there where a disparity is
+abbrev pub ref_view : ℕ → ℕ → Format Depth ℕ
+ref_view d_min_flag d_max_flag = when (eqb d_min_flag 1 || eqb d_max_flag 1) (ue at (λ r. r.disparity_ref_view_id))
+
 -- Only a message of type 3 has a list, which is of one number at least; every entry past the count is 0: RULES 3.3.
+abbrev pub model : ℕ → Format Depth Model
+model depth_representation_type =
+    when_else (eqb depth_representation_type 3)
+    (asks (λ r. leb 1 r.count) (do
+      depth_nonlinear_representation_num_minus1 ← ue must at_most (most - 1) at (λ r. r.count - 1)
+      depth_nonlinear_representation_model ← listed most (depth_nonlinear_representation_num_minus1 + 1) listed_number of (λ r. r.depth_nonlinear_representation_model)
+      done (model_of (depth_nonlinear_representation_num_minus1 + 1) depth_nonlinear_representation_model)))
+    (λ r. eqb r.count 0 && each (λ x. eqb x 0) r.depth_nonlinear_representation_model) (model_of 0 (replicate most 0))
+
 abbrev pub table : Format Depth Depth
 table = do
   z_near_flag ← u 1 at (λ r. r.z_near_flag)
@@ -62,17 +68,12 @@ table = do
   d_min_flag ← u 1 at (λ r. r.d_min_flag)
   d_max_flag ← u 1 at (λ r. r.d_max_flag)
   depth_representation_type ← ue must at_most 15 at (λ r. r.depth_representation_type)
-  disparity_ref_view_id ← when (eqb d_min_flag 1 || eqb d_max_flag 1) (ue at (λ r. r.disparity_ref_view_id))
+  disparity_ref_view_id ← ref_view d_min_flag d_max_flag
   z_near ← element_if z_near_flag of (λ r. r.z_near)
   z_far ← element_if z_far_flag of (λ r. r.z_far)
   d_min ← element_if d_min_flag of (λ r. r.d_min)
   d_max ← element_if d_max_flag of (λ r. r.d_max)
-  model ← when_else (eqb depth_representation_type 3)
-      (asks (λ r. leb 1 r.count) (do
-        depth_nonlinear_representation_num_minus1 ← ue must at_most (most - 1) at (λ r. r.count - 1)
-        depth_nonlinear_representation_model ← listed most (depth_nonlinear_representation_num_minus1 + 1) listed_number of (λ r. r.depth_nonlinear_representation_model)
-        done (model_of (depth_nonlinear_representation_num_minus1 + 1) depth_nonlinear_representation_model)))
-      (λ r. eqb r.count 0 && each (λ x. eqb x 0) r.depth_nonlinear_representation_model) (model_of 0 (replicate most 0))
+  list ← model depth_representation_type
   done
       (record {
         z_near_flag = z_near_flag;
@@ -85,42 +86,10 @@ table = do
         z_far = z_far;
         d_min = d_min;
         d_max = d_max;
-        count = model.count;
-        depth_nonlinear_representation_model = model.numbers;
+        count = list.count;
+        depth_nonlinear_representation_model = list.numbers;
       })
 
 -- the table under a name that stays shut: callers go by laws
 unfoldable pub depth : Format Depth Depth
 depth = table
-
--- ---- the parts that the code reads by functions of their own, as they stand in the table
-
-abbrev pub ref_view : ℕ → ℕ → Format Depth ℕ
-ref_view d_min_flag d_max_flag = when (eqb d_min_flag 1 || eqb d_max_flag 1) (ue at (λ r. r.disparity_ref_view_id))
-
-abbrev pub model : ℕ → Format Depth Model
-model depth_representation_type =
-    when_else (eqb depth_representation_type 3)
-    (asks (λ r. leb 1 r.count) (do
-      depth_nonlinear_representation_num_minus1 ← ue must at_most (most - 1) at (λ r. r.count - 1)
-      depth_nonlinear_representation_model ← listed most (depth_nonlinear_representation_num_minus1 + 1) listed_number of (λ r. r.depth_nonlinear_representation_model)
-      done (model_of (depth_nonlinear_representation_num_minus1 + 1) depth_nonlinear_representation_model)))
-    (λ r. eqb r.count 0 && each (λ x. eqb x 0) r.depth_nonlinear_representation_model) (model_of 0 (replicate most 0))
-
--- ---- what the code answers: where it stands beside where the reading goes on, a record of zeros on a refusal
-
-abbrev pub element_out : ElementRead → Out DepthValue
-element_out (element-read.Taken a c) = taken a c.at
-element_out (element-read.Refused r) = refused r
-
-abbrev pub numbers_read : Out (List ℕ) → NumbersRead
-numbers_read (taken xs q) = record { numbers = xs; onward = Next (record { at = q }) }
-numbers_read (refused r) = record { numbers = (zeros (model 0)).numbers; onward = Refused r }
-
-abbrev pub model_read : Out Model → ModelRead
-model_read (taken a q) = record { model = a; onward = Next (record { at = q }) }
-model_read (refused r) = record { model = zeros (model 0); onward = Refused r }
-
-abbrev pub depth_read : Out Depth → DepthRead
-depth_read (taken a q) = record { «record» = a; onward = Next (record { at = q }) }
-depth_read (refused r) = record { «record» = zeros table; onward = Refused r }

@@ -1,11 +1,8 @@
 -- Kind 150: H.274 8.15.2.1, equirectangular_projection( payloadSize ).
 use Rattle.std.specs.Prelude.{eqb}
-use Rattle.bits.specs.Out.{Out, taken, refused}
 use Rattle.format.specs.Format.{Format, done, ◌>>=◌}
 use Rattle.format.specs.Syntax.{u, guard_type, ◌at◌, ignored, when}
 use Rattle.kind_equirectangular.specs.declared.Equirectangular.{Equirectangular}
-use Rattle.kind_equirectangular.specs.declared.EquirectangularRead.{EquirectangularRead}
-use Rattle.kind_equirectangular.specs.declared.EquirectangularRead.TheVariants.{Taken, Refused}
 
 abbrev pub table : Format Equirectangular Equirectangular
 table = do
@@ -31,7 +28,3 @@ table = do
 -- the table under a name that stays shut: callers go by laws
 unfoldable pub equirectangular : Format Equirectangular Equirectangular
 equirectangular = table
-
-abbrev pub out_of : EquirectangularRead → Out Equirectangular
-out_of (Taken a c) = taken a c.at
-out_of (Refused r) = refused r

@@ -1,6 +1,6 @@
 // The six flags of kind 45, handed out as coded whatever the type is.
 #[repr(C)]
-#[derive(Clone, Copy)]
+#[derive(Clone, Copy, Default)]
 pub struct Flags {
     pub fp_spatial_flipping_flag: u8,
     pub fp_frame0_flipped_flag: u8,

@@ -5,19 +5,21 @@ use mathlib.Core.Path.{◌≡◌, sym, ◌∙◌}
 use mathlib.Core.Logic.{◌↔◌}
 use mathlib.Core.List.{List}
 use lib.ListN.{take}
+use Rattle.std.specs.Prelude.{Result}
+use Rattle.bits.specs.Answers.{out_of}
 use Rattle.bits.specs.Bits.{bits_in, bits_of}
 use Rattle.bits.specs.Out.{taken, refused}
+use Rattle.bits.specs.declared.cursor.Cursor.{Cursor}
 use Rattle.bits.specs.declared.refusal.Refusal.{Refusal}
 use Rattle.format.specs.Coded.{Coded}
 use Rattle.format.specs.Stopped.{Stopped}
 use Rattle.format.specs.Reading.{run_at}
 use Rattle.format.proofs.Payload.{payload-taken, payload-stopped}
-use Rattle.kind_orientation.specs.Orientation.{orientation, out_of}
+use Rattle.kind_orientation.specs.Orientation.{orientation}
 use Rattle.kind_orientation.specs.declared.Orientation.{Orientation}
-use Rattle.kind_orientation.specs.declared.OrientationRead.{OrientationRead}
 
 -- r is what `read` ensures of its result for the payload s and its first bit
-module _ (s : List ℕ) (r : OrientationRead) (ensured : out_of r ≡ run_at orientation s 0) where
+module _ (s : List ℕ) (r : Result (Orientation × Cursor) Refusal) (ensured : out_of r ≡ run_at orientation s 0) where
   -- a record exactly where the first q bits are the message a
   pub taken-iff : (a : Orientation) (q : ℕ) → (out_of r ≡ taken a q) ↔ ((q ≤ bits_in s) × Coded orientation (take q (bits_of s)) a)
   taken-iff a q = (λ h. (payload-taken orientation s a q).0 (sym ensured ∙ h), λ d. ensured ∙ (payload-taken orientation s a q).1 d)

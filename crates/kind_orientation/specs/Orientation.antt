@@ -1,11 +1,8 @@
 -- Kind 47: H.274 8.25.1, display_orientation( payloadSize ).
 use Rattle.std.specs.Prelude.{eqb}
-use Rattle.bits.specs.Out.{Out, taken, refused}
 use Rattle.format.specs.Format.{Format, done, ◌>>=◌}
 use Rattle.format.specs.Syntax.{u, ◌at◌, ignored, when}
 use Rattle.kind_orientation.specs.declared.Orientation.{Orientation}
-use Rattle.kind_orientation.specs.declared.OrientationRead.{OrientationRead}
-use Rattle.kind_orientation.specs.declared.OrientationRead.TheVariants.{Taken, Refused}
 
 abbrev pub table : Format Orientation Orientation
 table = do
@@ -24,7 +21,3 @@ table = do
 -- the table under a name that stays shut: callers go by laws
 unfoldable pub orientation : Format Orientation Orientation
 orientation = table
-
-abbrev pub out_of : OrientationRead → Out Orientation
-out_of (Taken a c) = taken a c.at
-out_of (Refused r) = refused r

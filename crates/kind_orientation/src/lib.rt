@@ -2,19 +2,18 @@
 #![tactic(auto)]
 
 ghost use Rattle.std.specs.Prelude.{◌≡◌};
+ghost use Rattle.bits.specs.Answers.{out_of};
 ghost use Rattle.bits.specs.Bits.{Payload};
-ghost use Rattle.bits.specs.Out.{refusal_in};
 ghost use Rattle.format.specs.Format.{zeros};
 ghost use Rattle.format.specs.Reading.{run_at};
-ghost use Rattle.kind_orientation.specs.Orientation.{table, orientation, out_of};
+ghost use Rattle.kind_orientation.specs.Orientation.{table, orientation};
 
 use bits::cursor::Cursor;
-use bits::element::byte;
-use bits::read::ByteRead;
-use bits::refusal::Refusal;
+use bits::element::u;
+use bits::read::Reading;
 
 #[repr(C)]
-#[derive(Clone, Copy)]
+#[derive(Clone, Copy, Default)]
 pub struct Orientation {
     pub display_orientation_cancel_flag: u8,
     pub display_orientation_persistence_flag: u8,
@@ -26,68 +25,31 @@ impl Orientation {
     pub fn zero() -> Orientation
         ensures { result ≡ zeros table }
     {
-        Orientation {
-            display_orientation_cancel_flag: 0,
-            display_orientation_persistence_flag: 0,
-            display_orientation_transform_type: 0,
-        }
+        Orientation::default()
     }
 }
 
-#[derive(Clone, Copy)]
-pub enum OrientationRead {
-    Taken(Orientation, Cursor),
-    Refused(Refusal),
-}
-
-impl OrientationRead {
-    // Why there is no record; asked only where there is none.
-    pub fn refusal(self) -> Refusal
-        ensures { result ≡ refusal_in (out_of self) }
-    {
-        match self {
-            OrientationRead::Refused(why) => why,
-            OrientationRead::Taken(_, _) => Refusal::unasked(),
-        }
-    }
-}
-
-pub fn read(s: &[u8], c: Cursor) -> OrientationRead
+#[tactic(auto, using(format::proofs::Steps::reading), unfolding(crate::specs::Orientation::orientation))]
+pub fn read(s: &[u8], c: Cursor) -> Reading<Orientation>
     requires { Payload s.now }
     ensures { out_of result ≡ run_at orientation s.now c.at }
 {
-    let r1 = byte(s, c, 1);
-    let ByteRead::Value(display_orientation_cancel_flag, c1) = r1 else {
-        return OrientationRead::Refused(r1.refusal());
-    };
+    let (display_orientation_cancel_flag, c) = u(s, c, 1)?;
     if display_orientation_cancel_flag != 0 {
-        return OrientationRead::Taken(
-            Orientation {
-                display_orientation_cancel_flag,
-                display_orientation_persistence_flag: 0,
-                display_orientation_transform_type: 0,
-            },
-            c1,
-        );
-    }
-    let r2 = byte(s, c1, 1);
-    let ByteRead::Value(display_orientation_persistence_flag, c2) = r2 else {
-        return OrientationRead::Refused(r2.refusal());
-    };
-    let r3 = byte(s, c2, 3);
-    let ByteRead::Value(display_orientation_transform_type, c3) = r3 else {
-        return OrientationRead::Refused(r3.refusal());
-    };
-    let r4 = byte(s, c3, 3);
-    let ByteRead::Value(_, c4) = r4 else {
-        return OrientationRead::Refused(r4.refusal());
-    };
-    OrientationRead::Taken(
-        Orientation {
+        let cancelled = Orientation {
             display_orientation_cancel_flag,
-            display_orientation_persistence_flag,
-            display_orientation_transform_type,
-        },
-        c4,
-    )
+            ..Orientation::default()
+        };
+        return Ok((cancelled, c));
+    }
+    let (display_orientation_persistence_flag, c) = u(s, c, 1)?;
+    let (display_orientation_transform_type, c) = u(s, c, 3)?;
+    // display_orientation_reserved_zero_3bits
+    let (_, c) = u::<u8>(s, c, 3)?;
+    let orientation = Orientation {
+        display_orientation_cancel_flag,
+        display_orientation_persistence_flag,
+        display_orientation_transform_type,
+    };
+    Ok((orientation, c))
 }

@@ -1,7 +1,7 @@
 -- What holds of every record of kind 155 that is coded.
 -- Assumes nothing.
 use Prim.Native.Nat.{ℕ, ◌-◌, ◌≤◌, ◌<◌}
-use mathlib.Core.Path.{◌≡◌, refl, sym, ◌∙◌}
+use mathlib.Core.Path.{◌≡◌, refl, subst}
 use mathlib.Core.Bool.{Bool, true, false}
 use mathlib.Core.List.{List}
 use native.Mathlib.Omega.{arith}
@@ -9,13 +9,13 @@ use lib.Dec.{leb, eqb}
 use lib.ListN.{length, drop, replicate, length-replicate}
 use borrow.Author.Tests.{leb-true, eqb-true, eqb-false}
 use Rattle.bits.specs.Refusals.{Breach, broken, too_many, fine, against}
-use Rattle.bits.specs.Out.{Out, taken}
+use Rattle.bits.specs.Out.{taken}
 use Rattle.format.specs.Format.{◌of◌, zeros}
 use Rattle.format.specs.Reading.{element_at, run_at}
-use Rattle.format.specs.Syntax.{u, ◌at◌, ◌must◌, ◌unless◌, ◌also◌, listed, times}
+use Rattle.format.specs.Syntax.{u, ◌must◌, ◌unless◌, ◌also◌, listed, times}
 use Rattle.format.specs.Coded.{Coded}
 use Rattle.format.proofs.Always.{Always, Padded, code_below, always-of, always-part, always-when, always-listed, always-coded, always-taken}
-use Rattle.format.proofs.ReaderLaws.{one-element}
+use Rattle.format.proofs.ReaderLaws.{taken-from}
 use Rattle.kind_region_wise.specs.declared.RegionWise.{RegionWise}
 use Rattle.kind_region_wise.specs.RegionWise.{most, countable, region, region_table, table, region_wise, BareCancel}
 
@@ -33,10 +33,8 @@ counted v = go (leb 1 v) (leb v most) refl refl
     go false b e f h = against-fine h
 
 -- one that was taken is no more than a record has entries
-pub few : (s : List ℕ) (p : ℕ) {o : Out ℕ} {v q : ℕ} → o ≡ element_at (u 8 must countable) s p → o ≡ taken v q → v ≤ most
-few s p e g =
-    (always-taken (u 8 must countable at (λ (v : ℕ). v)) (λ v n. v ≤ most) (λ v _ _ h. (counted v h).1) s p
-    (one-element (u 8 must countable) (λ (v : ℕ). v) s p ∙ sym e ∙ g)).1
+pub few : (s : List ℕ) (p : ℕ) {v q : ℕ} → element_at (u 8 must countable) s p ≡ taken v q → v ≤ most
+few s p e = let t = taken-from (u 8 must countable) s p e in subst (λ x. x ≤ most) t.2 (counted t.0 t.3).1
 
 -- ---- the record
 

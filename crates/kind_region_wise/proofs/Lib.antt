@@ -1,6 +1,4 @@
 -- The theorems of this crate, beside the proofs of its functions.
-mod Joined
-pub mod Judged
 pub mod Kept
 pub mod Sizes
 pub mod Determined

@@ -1,21 +1,10 @@
 -- Kind 155: H.274 8.15.5.1, regionwise_packing( payloadSize ).
-use Rattle.std.specs.Prelude.{ℕ, ◌≡◌, ◌≢◌, List, leb, eqb, replicate}
+use Rattle.std.specs.Prelude.{ℕ, ◌≡◌, ◌≢◌, leb, eqb}
 use Rattle.bits.specs.Refusals.{Verdict, too_many}
-use Rattle.bits.specs.Out.{Out, taken, refused, after}
-use Rattle.bits.specs.declared.read.Onward.{Onward}
-use Rattle.bits.specs.declared.read.Onward.TheVariants as onward
-use Rattle.bits.specs.declared.refusal.Refusal.{Refusal}
 use Rattle.format.specs.Format.{Format, done, ◌>>=◌, ◌of◌, zeros}
-use Rattle.format.specs.Reading.{run_at}
 use Rattle.format.specs.Syntax.{u, guard_type, ◌at◌, ignored, ◌must◌, ◌unless◌, ◌also◌, at_least, usable, when, listed}
 use Rattle.kind_region_wise.specs.declared.RegionWise.{RegionWise}
-use Rattle.kind_region_wise.specs.declared.RegionWiseRead.{RegionWiseRead}
-use Rattle.kind_region_wise.specs.declared.Head.{Head}
-use Rattle.kind_region_wise.specs.declared.HeadRead.{HeadRead}
 use Rattle.kind_region_wise.specs.declared.region.Region.{Region}
-use Rattle.kind_region_wise.specs.declared.region.RegionRead.{RegionRead}
-use Rattle.kind_region_wise.specs.declared.region.RegionRead.TheVariants as region-read
-use Rattle.kind_region_wise.specs.declared.list.RegionsRead.{RegionsRead}
 
 -- the most regions that a message may have
 abbrev pub most : ℕ
@@ -112,68 +101,6 @@ table = do
 
 unfoldable pub region_wise : Format RegionWise RegionWise
 region_wise = table
-
-abbrev pub region_out : RegionRead → Out Region
-region_out (region-read.Taken a c) = taken a c.at
-region_out (region-read.Refused r) = refused r
-
--- an entry for each region that a record has, of zeros
-abbrev pub no_regions : List Region
-no_regions = replicate most (zeros region_table)
-
--- what the code answers for what reading comes to: zeros on a refusal
-abbrev pub regions_read : Out (List Region) → RegionsRead
-regions_read (taken rs q) = record { regions = rs; onward = onward.Next (record { at = q }) }
-regions_read (refused r) = record { regions = no_regions; onward = onward.Refused r }
-
-abbrev pub region_wise_read : Out RegionWise → RegionWiseRead
-region_wise_read (taken a q) = record { «record» = a; onward = onward.Next (record { at = q }) }
-region_wise_read (refused r) = record { «record» = zeros table; onward = onward.Refused r }
-
--- ---- the code reads what stands before the regions, the head, by itself, and then goes on
-
-abbrev pub joined : Head → List Region → RegionWise
-joined h rs =
-    record {
-      rwp_cancel_flag = h.rwp_cancel_flag;
-      rwp_persistence_flag = h.rwp_persistence_flag;
-      rwp_constituent_picture_matching_flag = h.rwp_constituent_picture_matching_flag;
-      rwp_num_packed_regions = h.rwp_num_packed_regions;
-      rwp_proj_picture_width = h.rwp_proj_picture_width;
-      rwp_proj_picture_height = h.rwp_proj_picture_height;
-      rwp_packed_picture_width = h.rwp_packed_picture_width;
-      rwp_packed_picture_height = h.rwp_packed_picture_height;
-      regions = rs;
-    }
-
-abbrev pub no_head : Head
-no_head =
-    record {
-      rwp_cancel_flag = 0;
-      rwp_persistence_flag = 0;
-      rwp_constituent_picture_matching_flag = 0;
-      rwp_num_packed_regions = 0;
-      rwp_proj_picture_width = 0;
-      rwp_proj_picture_height = 0;
-      rwp_packed_picture_width = 0;
-      rwp_packed_picture_height = 0;
-    }
-
-abbrev pub head_refused : Refusal → HeadRead
-head_refused r = record { head = no_head; onward = onward.Refused r }
-
-abbrev pub head_kept : Head → Onward → Head
-head_kept h (onward.Next c) = h
-head_kept h (onward.Refused r) = no_head
-
--- the regions, from where the reading goes on
-abbrev pub regions_from : Onward → ℕ → List ℕ → Out (List Region)
-regions_from (onward.Next c) n s = run_at (listed most n region) s c.at
-regions_from (onward.Refused r) n s = refused r
-
--- what the whole comes to, after its head
-abbrev pub rest_of : HeadRead → List ℕ → Out RegionWise
-rest_of h s = after (regions_from h.onward h.head.rwp_num_packed_regions s) (λ rs q. taken (joined h.head rs) q)
 
 -- ---- a cancel is its flag and nothing else
 

@@ -1,15 +1,10 @@
 -- Kind 154: H.274 8.15.4.1, sphere_rotation( payloadSize ).
 use Rattle.std.specs.Prelude.{eqb, ℤ, pos, negsuc}
 use Rattle.bits.specs.Refusals.{Verdict}
-use Rattle.bits.specs.Out.{Out, taken, refused}
 use Rattle.format.specs.Format.{Format, done, ◌>>=◌, ◌of◌}
 use Rattle.format.specs.Syntax.{u, ◌at◌, i32, ignored, between, when}
 use Rattle.numbers.specs.Degrees.{degrees_of}
 use Rattle.kind_rotation.specs.declared.Rotation.{Rotation}
-use Rattle.kind_rotation.specs.declared.RotationRead.{RotationRead}
-use Rattle.kind_rotation.specs.declared.RotationRead.TheVariants.{Taken, Refused}
-use Rattle.kind_rotation.specs.declared.angle.AngleRead.{AngleRead}
-use Rattle.kind_rotation.specs.declared.angle.AngleRead.TheVariants as angle-read
 
 -- RULES 8: yaw and roll from -11,796,480 to 11,796,479, pitch from -5,898,240 to 5,898,240. `negsuc n` is -(n + 1)
 abbrev pub turn : ℤ → Verdict
@@ -40,11 +35,3 @@ table = do
 -- the table under a name that stays shut: callers go by laws
 unfoldable pub rotation : Format Rotation Rotation
 rotation = table
-
-abbrev pub out_of : RotationRead → Out Rotation
-out_of (Taken a c) = taken a c.at
-out_of (Refused r) = refused r
-
-abbrev pub angle_out : AngleRead → Out ℤ
-angle_out (angle-read.Value v c) = taken v c.at
-angle_out (angle-read.Refused r) = refused r

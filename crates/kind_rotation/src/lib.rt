@@ -2,17 +2,16 @@
 #![tactic(auto)]
 
 ghost use Rattle.std.specs.Prelude.{◌≡◌};
+ghost use Rattle.bits.specs.Answers.{out_of};
 ghost use Rattle.bits.specs.Bits.{Payload};
-ghost use Rattle.bits.specs.Out.{refusal_in};
 ghost use Rattle.format.specs.Format.{zeros};
 ghost use Rattle.format.specs.Reading.{run_at};
-ghost use Rattle.kind_rotation.specs.Rotation.{table, rotation, out_of};
+ghost use Rattle.kind_rotation.specs.Rotation.{table, rotation};
 
-use crate::angle::{AngleRead, angle};
+use crate::angle::angle;
 use bits::cursor::Cursor;
-use bits::element::byte;
-use bits::read::ByteRead;
-use bits::refusal::Refusal;
+use bits::element::u;
+use bits::read::Reading;
 use numbers::degrees::Degrees;
 
 mod angle;
@@ -28,7 +27,7 @@ const PITCH_LEAST: i32 = -5_898_240;
 const PITCH_MOST: i32 = 5_898_240;
 
 #[repr(C)]
-#[derive(Clone, Copy)]
+#[derive(Clone, Copy, Default)]
 pub struct Rotation {
     pub sphere_rotation_cancel_flag: u8,
     pub sphere_rotation_persistence_flag: u8,
@@ -41,88 +40,40 @@ pub struct Rotation {
 
 impl Rotation {
     // The record of zeros.
+    #[tactic(auto, using(crate::proofs::Steps::steps))]
     pub fn zero() -> Rotation
         ensures { result ≡ zeros table }
     {
-        Rotation {
-            sphere_rotation_cancel_flag: 0,
-            sphere_rotation_persistence_flag: 0,
-            yaw_rotation: 0,
-            pitch_rotation: 0,
-            roll_rotation: 0,
-            degrees: Degrees::zero(),
-        }
+        Rotation::default()
     }
 }
 
-#[derive(Clone, Copy)]
-pub enum RotationRead {
-    Taken(Rotation, Cursor),
-    Refused(Refusal),
-}
-
-impl RotationRead {
-    // Why there is no record; asked only where there is none.
-    pub fn refusal(self) -> Refusal
-        ensures { result ≡ refusal_in (out_of self) }
-    {
-        match self {
-            RotationRead::Refused(why) => why,
-            RotationRead::Taken(_, _) => Refusal::unasked(),
-        }
-    }
-}
-
-pub fn read(s: &[u8], c: Cursor) -> RotationRead
+#[tactic(auto, using(crate::proofs::Steps::steps), unfolding(crate::specs::Rotation::rotation))]
+pub fn read(s: &[u8], c: Cursor) -> Reading<Rotation>
     requires { Payload s.now }
     ensures { out_of result ≡ run_at rotation s.now c.at }
 {
-    let r1 = byte(s, c, 1);
-    let ByteRead::Value(sphere_rotation_cancel_flag, c1) = r1 else {
-        return RotationRead::Refused(r1.refusal());
-    };
+    let (sphere_rotation_cancel_flag, c) = u(s, c, 1)?;
     if sphere_rotation_cancel_flag != 0 {
-        return RotationRead::Taken(
-            Rotation {
-                sphere_rotation_cancel_flag,
-                sphere_rotation_persistence_flag: 0,
-                yaw_rotation: 0,
-                pitch_rotation: 0,
-                roll_rotation: 0,
-                degrees: Degrees::zero(),
-            },
-            c1,
-        );
-    }
-    let r2 = byte(s, c1, 1);
-    let ByteRead::Value(sphere_rotation_persistence_flag, c2) = r2 else {
-        return RotationRead::Refused(r2.refusal());
-    };
-    let r3 = byte(s, c2, 6);
-    let ByteRead::Value(_, c3) = r3 else {
-        return RotationRead::Refused(r3.refusal());
-    };
-    let r4 = angle(s, c3, TURN_LEAST, TURN_MOST);
-    let AngleRead::Value(yaw_rotation, c4) = r4 else {
-        return RotationRead::Refused(r4.refusal());
-    };
-    let r5 = angle(s, c4, PITCH_LEAST, PITCH_MOST);
-    let AngleRead::Value(pitch_rotation, c5) = r5 else {
-        return RotationRead::Refused(r5.refusal());
-    };
-    let r6 = angle(s, c5, TURN_LEAST, TURN_MOST);
-    let AngleRead::Value(roll_rotation, c6) = r6 else {
-        return RotationRead::Refused(r6.refusal());
-    };
-    RotationRead::Taken(
-        Rotation {
+        let cancelled = Rotation {
             sphere_rotation_cancel_flag,
-            sphere_rotation_persistence_flag,
-            yaw_rotation,
-            pitch_rotation,
-            roll_rotation,
-            degrees: Degrees::of(yaw_rotation, pitch_rotation, roll_rotation),
-        },
-        c6,
-    )
+            ..Rotation::default()
+        };
+        return Ok((cancelled, c));
+    }
+    let (sphere_rotation_persistence_flag, c) = u(s, c, 1)?;
+    // sphere_rotation_reserved_zero_6bits
+    let (_, c) = u::<u8>(s, c, 6)?;
+    let (yaw_rotation, c) = angle(s, c, TURN_LEAST, TURN_MOST)?;
+    let (pitch_rotation, c) = angle(s, c, PITCH_LEAST, PITCH_MOST)?;
+    let (roll_rotation, c) = angle(s, c, TURN_LEAST, TURN_MOST)?;
+    let rotation = Rotation {
+        sphere_rotation_cancel_flag,
+        sphere_rotation_persistence_flag,
+        yaw_rotation,
+        pitch_rotation,
+        roll_rotation,
+        degrees: Degrees::of(yaw_rotation, pitch_rotation, roll_rotation),
+    };
+    Ok((rotation, c))
 }

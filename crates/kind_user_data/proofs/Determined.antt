@@ -1,16 +1,11 @@
--- The contract of each public function determines its result: `zero` and `read` of each kind, and `head_bytes` and `refusal` of kind 4.
+-- The contract of each public function determines its result: `zero` and `read` of each kind, and `head_bytes` of kind 4.
 -- Assumes nothing.
-use mathlib.Core.Path.{◌≡◌, refl, sym, ◌∙◌}
-use Rattle.bits.proofs.Determined.{Determines, told, made}
-use Rattle.kind_user_data.specs.Registered.{out_of}
-use Rattle.kind_user_data.specs.declared.registered.RegisteredRead.{RegisteredRead}
-use Rattle.kind_user_data.specs.declared.registered.RegisteredRead.TheVariants.{Taken, Refused}
+use mathlib.Core.Path.{sym, ◌∙◌}
+use Rattle.bits.proofs.Determined.{Determines, told}
 use Rattle.kind_user_data.proofs.registered.Registered.zero.Kinds as registered-zero-kinds
 use Rattle.kind_user_data.proofs.registered.Registered.zero.Reads as registered-zero-reads
 use Rattle.kind_user_data.proofs.registered.Registered.head_bytes.Kinds as head-bytes-kinds
 use Rattle.kind_user_data.proofs.registered.Registered.head_bytes.Reads as head-bytes-reads
-use Rattle.kind_user_data.proofs.registered.RegisteredRead.refusal.Kinds as refusal-kinds
-use Rattle.kind_user_data.proofs.registered.RegisteredRead.refusal.Reads as refusal-reads
 use Rattle.kind_user_data.proofs.registered.read.Kinds as registered-kinds
 use Rattle.kind_user_data.proofs.registered.read.Reads as registered-reads
 use Rattle.kind_user_data.proofs.unregistered.Unregistered.zero.Kinds as unregistered-zero-kinds
@@ -18,24 +13,17 @@ use Rattle.kind_user_data.proofs.unregistered.Unregistered.zero.Reads as unregis
 use Rattle.kind_user_data.proofs.unregistered.read.Kinds as unregistered-kinds
 use Rattle.kind_user_data.proofs.unregistered.read.Reads as unregistered-reads
 
-had : (r : RegisteredRead) → made Taken Refused (out_of r) ≡ r
-had (Taken a c) = refl
-had (Refused r) = refl
-
 pub registered-zero-determined : Determines 0 registered-zero-kinds.ps registered-zero-kinds.r registered-zero-reads.Post
 registered-zero-determined κs a x y s t p q = p ∙ sym q
 
 pub head-bytes-determined : Determines 0 head-bytes-kinds.ps head-bytes-kinds.r head-bytes-reads.Post
 head-bytes-determined κs a x y s t p q = p ∙ sym q
 
-pub refusal-determined : Determines 0 refusal-kinds.ps refusal-kinds.r refusal-reads.Post
-refusal-determined κs a x y s t p q = p ∙ sym q
-
 pub registered-determined : Determines 1 registered-kinds.ps registered-kinds.r registered-reads.Post
-registered-determined κs a x y s t p q = told out_of Taken Refused had x y (p ∙ sym q)
+registered-determined κs a x y s t p q = told x y (p ∙ sym q)
 
 pub unregistered-zero-determined : Determines 0 unregistered-zero-kinds.ps unregistered-zero-kinds.r unregistered-zero-reads.Post
 unregistered-zero-determined κs a x y s t p q = p ∙ sym q
 
 pub unregistered-determined : Determines 1 unregistered-kinds.ps unregistered-kinds.r unregistered-reads.Post
-unregistered-determined κs a x y s t p q = p ∙ sym q
+unregistered-determined κs a x y s t p q = told x y (p ∙ sym q)

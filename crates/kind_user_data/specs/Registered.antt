@@ -1,11 +1,8 @@
 -- Kind 4: H.274 8.3.1, user_data_registered_itu_t_t35( payloadSize ), up to its payload bytes.
 use Rattle.std.specs.Prelude.{ℕ, if◌then◌else◌, eqb}
-use Rattle.bits.specs.Out.{Out, taken, refused}
 use Rattle.format.specs.Format.{Format, done, ◌>>=◌}
 use Rattle.format.specs.Syntax.{b, ◌at◌, when}
 use Rattle.kind_user_data.specs.declared.registered.Registered.{Registered}
-use Rattle.kind_user_data.specs.declared.registered.RegisteredRead.{RegisteredRead}
-use Rattle.kind_user_data.specs.declared.registered.RegisteredRead.TheVariants.{Taken, Refused}
 
 abbrev pub table : Format Registered Registered
 table = do
@@ -21,7 +18,3 @@ registered = table
 -- how many bytes the head takes
 abbrev pub head_bytes : Registered → ℕ
 head_bytes a = if eqb a.itu_t_t35_country_code 255 then 2 else 1
-
-abbrev pub out_of : RegisteredRead → Out Registered
-out_of (Taken a c) = taken a c.at
-out_of (Refused r) = refused r

@@ -7,6 +7,8 @@ use native.Mathlib.Nat.{zero-add, add-zero}
 use native.Mathlib.Numerals.{add-one}
 use native.Mathlib.Omega.{arith}
 use lib.ListN.{length, get_or, set, take}
+use Rattle.std.proofs.Common.{map}
+use Rattle.std.proofs.lemmas.List.{length-map, get_or-map}
 use lib.Seq.{sets, sets-eq, take-suc, length-take-le}
 use Rattle.lent.specs.Lent.{Left, left, over}
 
@@ -23,6 +25,13 @@ sets_more l xs at j h =
     let n : length (take j xs) ≡ j = length-take-le j xs (omega arith) in
     let two = sets-append (take j xs) (get_or xs j 0 ∷ []) l at in
     sym (rw (add-one, take-suc xs j 0 h, two, n))
+
+-- the same of the numbers of a run
+pub put_more : {X : Type 0} (number : X → ℕ) (l : List ℕ) (xs : List X) (at j : ℕ) (x : X) → j < length xs → x ≡ get_or xs j x
+    → set (sets l at (take j (map number xs))) (at + j) (number x) ≡ sets l at (take (j + 1) (map number xs))
+put_more number l xs at j x h e =
+    let n : j < length (map number xs) = omega (arith, length-map xs number) in
+    rw (ap number e ∙ sym (get_or-map number xs j x 0 h)) (sets_more l (map number xs) at j n)
 
 -- from the first place on
 pub sets-front : (xs l : List ℕ) → length xs ≤ length l → sets l 0 xs ≡ over xs l

@@ -14,8 +14,9 @@ use lib.Ieee.Exact.{HasValue}
 use lib.Ieee.Back.{round_whole}
 use lib.Ieee.Scale.{round_same}
 use mir.Val.{SFits}
+use Rattle.std.proofs.Math.Facts.{to_z-of_z}
 use mir.Syntax.{w32}
-use Rattle.numbers.proofs.Patterns.{Finite, scaled-by-k, scaled-finite, scaled-is, value, back}
+use Rattle.numbers.proofs.Patterns.{Finite, a-number, scaled-by-k, scaled-finite, scaled-is, value, back}
 use Rattle.numbers.specs.Floats.{pattern, scaled_bits}
 use Rattle.numbers.specs.Degrees.{In32, sign_bit, degree_bits}
 
@@ -114,3 +115,6 @@ unfolding of_int degree_bits
 over-65536 (pos zero) h = zero-over
 over-65536 (pos (suc n)) h = some-over 0 n (omega arith) (omega arith)
 over-65536 (negsuc n) h = some-over 1 n (omega arith) (omega arith)
+
+-- what the goals of a coded number's degrees want: its bits are read back as the number, the quotient is exact, and its float is no NaN
+pub ruleset degrees = (to_z-of_z, every-i32, over-65536, a-number, degree-finite, degree-back)

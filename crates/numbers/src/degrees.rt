@@ -6,7 +6,7 @@ ghost use Rattle.numbers.specs.Degrees.{degree_bits, degrees_of, no_degrees};
 
 // The rotation in degrees.
 #[repr(C)]
-#[derive(Clone, Copy)]
+#[derive(Clone, Copy, Default)]
 pub struct Degrees {
     pub yaw: f64,
     pub pitch: f64,
@@ -29,15 +29,12 @@ impl Degrees {
     pub fn zero() -> Degrees
         ensures { result ≡ no_degrees }
     {
-        Degrees {
-            yaw: 0.0,
-            pitch: 0.0,
-            roll: 0.0,
-        }
+        Degrees::default()
     }
 }
 
 // A coded number over 65,536. The cast and the quotient round nothing: a float holds 53 binary digits, and c has at most 32.
+#[tactic(auto, using(crate::proofs::DegreeLaws::degrees))]
 fn degree(c: i32) -> f64
     ensures { result ≡ of_bits binary64 (degree_bits c) }
 {
@@ -45,6 +42,7 @@ fn degree(c: i32) -> f64
 }
 
 // The 64 bits of that float, for a caller that takes integers.
+#[tactic(auto, using(crate::proofs::DegreeLaws::degrees))]
 pub fn degree_bits(c: i32) -> u64
     ensures { result ≡ degree_bits c }
 {

@@ -1,22 +1,22 @@
-// Standard output by way of a buffer, so that a line of many pieces is one system call.
-ghost use Rattle.std.specs.Prelude.{◌+◌, ◌≤◌, length};
+// Standard output by way of a buffer, so that a line of many pieces is one system call. It lies on the stack: the desk allocates nothing.
+ghost use Rattle.std.specs.Prelude.{◌≤◌};
 
 use std::io::{ErrorKind, Print, Stdout};
 
-// A buffer's bytes. The first two say where the next byte goes, and what waits stands from the third on. A buffer of zeros is empty.
 const ROOM: usize = 16384;
-
-const FIRST: usize = 2;
 
 // Standard output, what waits for it, and what the program's exit status is to say.
 #[derive(Drop)]
 pub struct Out {
     stdout: Stdout,
     waiting: [u8; ROOM],
+    // How many of these bytes wait.
+    length: usize,
     // Whether a line was wrong, whether a call was refused, and whether nobody reads on.
     wrong: bool,
     refused: bool,
     unread: bool,
+    ghost fits: { length ≤ 16384 },
 }
 
 #[derive(Clone, Copy)]
@@ -27,11 +27,20 @@ pub enum Fault {
     Call,
 }
 
+// Writes bytes, and says whether nobody reads them. No other failure is told.
+fn lost(stdout: Stdout, s: &[u8]) -> bool {
+    match stdout.write_all(s) {
+        Ok(_) => false,
+        Err(e) => e.kind() == ErrorKind::BrokenPipe,
+    }
+}
+
 impl Out {
     pub fn start(stdout: Stdout) -> Out {
         Out {
             stdout,
-            waiting: [0u8; ROOM],
+            waiting: [0; ROOM],
+            length: 0,
             wrong: false,
             refused: false,
             unread: false,
@@ -47,121 +56,49 @@ impl Out {
     // where nobody reads on.
     pub fn status(&self) -> u8 {
         if self.unread {
-            return 141;
+            141
+        } else if self.wrong {
+            1
+        } else if self.refused {
+            3
+        } else {
+            0
         }
-        if self.wrong {
-            return 1;
+    }
+
+    // Marks what the exit status is to say.
+    pub fn mark(&mut self, fault: Fault) {
+        match fault {
+            Fault::Line => self.wrong = true,
+            Fault::Call => self.refused = true,
         }
-        if self.refused {
-            return 3;
+    }
+
+    // Writes what waits.
+    pub fn flush(&mut self) {
+        self.unread |= lost(self.stdout, &self.waiting[..self.length]);
+        self.length = 0;
+    }
+
+    // Bytes as they are. Where they do not fit what is free, what waits goes first, and what no buffer has room for is written at once.
+    pub fn raw(&mut self, s: &[u8]) {
+        if ROOM - self.length < s.len() {
+            self.flush();
         }
-        0
+        if ROOM - self.length < s.len() {
+            self.unread |= lost(self.stdout, s);
+            return;
+        }
+        let end = self.length + s.len();
+        self.waiting[self.length..end].copy_from_slice(s);
+        self.length = end;
     }
-}
 
-// Marks what the exit status is to say.
-pub fn mark(out: &mut Out, fault: Fault) {
-    match fault {
-        Fault::Line => out.wrong = true,
-        Fault::Call => out.refused = true,
+    pub fn text(&mut self, s: &str) {
+        self.raw(s.as_bytes());
     }
-}
 
-// Writes bytes, and says whether nobody reads them. No other failure is told.
-fn written(stdout: Stdout, s: &[u8]) -> bool {
-    match stdout.write_all(s) {
-        Ok(_) => false,
-        Err(e) => e.kind() == ErrorKind::BrokenPipe,
+    pub(crate) fn byte(&mut self, b: u8) {
+        self.raw(&[b]);
     }
-}
-
-fn write(out: &mut Out, s: &[u8]) {
-    if written(out.stdout, s) {
-        out.unread = true;
-    }
-}
-
-fn wide(b: u8) -> usize
-    ensures { result ≤ 255 }
-{
-    b as usize
-}
-
-// Where the next byte goes.
-fn place(out: &[u8; ROOM]) -> usize
-    ensures { (2 ≤ result) × (result ≤ 16384) }
-{
-    let at = 256 * wide(out[0]) + wide(out[1]);
-    if at < FIRST {
-        return FIRST;
-    }
-    if ROOM < at {
-        return ROOM;
-    }
-    at
-}
-
-fn set_place(out: &mut [u8; ROOM], at: usize)
-    requires { at ≤ 16384 }
-{
-    out[0] = (at / 256) as u8;
-    out[1] = (at % 256) as u8;
-}
-
-// Writes what waits before a place, and says whether nobody reads it.
-fn sent(stdout: Stdout, out: &[u8], end: usize) -> bool
-    requires { (2 ≤ end) × (end ≤ length out.now) }
-{
-    let start = FIRST;
-    written(stdout, &out[start..end])
-}
-
-// Writes what waits.
-pub fn flush(out: &mut Out) {
-    let end = place(&out.waiting);
-    if sent(out.stdout, &out.waiting, end) {
-        out.unread = true;
-    }
-    set_place(&mut out.waiting, FIRST);
-}
-
-fn copy(out: &mut [u8; ROOM], at: usize, s: &[u8])
-    requires { at + length s.now ≤ 16384 }
-{
-    let mut i = 0;
-    while i < s.len() {
-        out[at + i] = s[i];
-        i += 1;
-    }
-}
-
-// A text that does not fit what is free: what waits goes first, and one that no buffer has room for is written at once.
-fn spill(out: &mut Out, s: &[u8]) {
-    flush(out);
-    if ROOM - FIRST < s.len() {
-        write(out, s);
-        return;
-    }
-    copy(&mut out.waiting, FIRST, s);
-    set_place(&mut out.waiting, FIRST + s.len());
-}
-
-pub fn text(out: &mut Out, s: &[u8]) {
-    let at = place(&out.waiting);
-    if ROOM - at < s.len() {
-        spill(out, s);
-        return;
-    }
-    copy(&mut out.waiting, at, s);
-    set_place(&mut out.waiting, at + s.len());
-}
-
-pub fn byte(out: &mut Out, b: u8) {
-    let at = place(&out.waiting);
-    if ROOM <= at {
-        spill(out, &[b]);
-        return;
-    }
-    out.waiting[at] = b;
-    set_place(&mut out.waiting, at + 1);
 }

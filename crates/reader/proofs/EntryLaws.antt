@@ -9,34 +9,50 @@ use native.Mathlib.Omega.{arith}
 use borrow.Author.Tests.{le-leb, lt-leb}
 use denote.Enum.Declared.{tag_of}
 use types.Run.{OneOf, miss}
+use Rattle.std.specs.Prelude.{Option, Some, None, Ok, Err}
 use Rattle.bits.proofs.BitLaws.{below}
-use Rattle.answers.specs.Listed.{number, named}
+use Rattle.bits.specs.declared.refusal.Refusal.{Refusal}
+use Rattle.answers.specs.Listed.{number, named, kind_by}
 use Rattle.answers.specs.declared.kind.Kind.{Kind}
-use Rattle.answers.specs.declared.kind.Named.{Named}
-use Rattle.answers.specs.declared.kind.Named.TheVariants as names
 use Rattle.answers.proofs.KindLaws.{named-iff, unnamed-iff}
 use Rattle.reader.specs.Entry.{fits, entered, entry_to}
 use Rattle.reader.specs.contracts.entry.Entry.{the_type}
 use Rattle.reader.specs.declared.entry.Entry.TheVariants.{Unlisted, Oversized, Payload}
 
+-- ---- the kind that a number names
+
+pub kind-some : (n : ℕ) {k : Kind} → Ok k ≡ kind_by (named n) → named n ≡ Some k
+kind-some n {k} e = go (named n) e
+  where
+    go : (x : Option Kind) → Ok k ≡ kind_by x → x ≡ Some k
+    go (Some j) e = cc
+    go None e = cc
+
+pub kind-none : (n : ℕ) {r : Refusal} → Err r ≡ kind_by (named n) → named n ≡ None
+kind-none n {r} e = go (named n) e
+  where
+    go : (x : Option Kind) → Err r ≡ kind_by x → x ≡ None
+    go (Some j) e = cc
+    go None e = refl
+
 module _ (n size room : ℕ) where
   -- ---- by the name and the size
 
-  pub entry-unlisted : named n ≡ names.Unlisted → entry_to n size room ≡ Unlisted
+  pub entry-unlisted : named n ≡ None → entry_to n size room ≡ Unlisted
   unfolding entry_to
   entry-unlisted e = ap (λ x. entered x (fits size room)) e
 
-  at_name : (k : Kind) → named n ≡ names.Listed k → (b : Bool) → fits size room ≡ b → entry_to n size room ≡ entered (names.Listed k) b
+  at_name : (k : Kind) → named n ≡ Some k → (b : Bool) → fits size room ≡ b → entry_to n size room ≡ entered (Some k) b
   unfolding entry_to
-  at_name k e b h = ap (λ x. entered x (fits size room)) e ∙ ap (entered (names.Listed k)) h
+  at_name k e b h = ap (λ x. entered x (fits size room)) e ∙ ap (entered (Some k)) h
 
-  pub entry-large : (k : Kind) → named n ≡ names.Listed k → 8192 < size → entry_to n size room ≡ Oversized k
+  pub entry-large : (k : Kind) → named n ≡ Some k → 8192 < size → entry_to n size room ≡ Oversized k
   entry-large k e h = at_name k e false (rw (lt-leb size 8192 h))
 
-  pub entry-long : (k : Kind) → named n ≡ names.Listed k → size ≤ 8192 → room < size → entry_to n size room ≡ Oversized k
+  pub entry-long : (k : Kind) → named n ≡ Some k → size ≤ 8192 → room < size → entry_to n size room ≡ Oversized k
   entry-long k e h l = at_name k e false (rw (le-leb size 8192 h, lt-leb size room l))
 
-  pub entry-payload : (k : Kind) → named n ≡ names.Listed k → size ≤ 8192 → size ≤ room → entry_to n size room ≡ Payload k
+  pub entry-payload : (k : Kind) → named n ≡ Some k → size ≤ 8192 → size ≤ room → entry_to n size room ≡ Payload k
   entry-payload k e h l = at_name k e true (rw (le-leb size 8192 h, le-leb size room l))
 
   -- ---- each exactly when
@@ -49,11 +65,11 @@ module _ (n size room : ℕ) where
   pub judged : Judged
   judged = go (named n) refl (below 8192 size) (below room size)
     where
-      go : (x : Named) → named n ≡ x → (8192 < size) ⊎ (size ≤ 8192) → (room < size) ⊎ (size ≤ room) → Judged
-      go names.Unlisted e b c = unlisted ((unnamed-iff n).0 e) (entry-unlisted e)
-      go (names.Listed k) e (inl b) c = oversized k ((named-iff n k).0 e) (inl b) (entry-large k e b)
-      go (names.Listed k) e (inr b) (inl c) = oversized k ((named-iff n k).0 e) (inr c) (entry-long k e b c)
-      go (names.Listed k) e (inr b) (inr c) = payload k ((named-iff n k).0 e) b c (entry-payload k e b c)
+      go : (x : Option Kind) → named n ≡ x → (8192 < size) ⊎ (size ≤ 8192) → (room < size) ⊎ (size ≤ room) → Judged
+      go None e b c = unlisted ((unnamed-iff n).0 e) (entry-unlisted e)
+      go (Some k) e (inl b) c = oversized k ((named-iff n k).0 e) (inl b) (entry-large k e b)
+      go (Some k) e (inr b) (inl c) = oversized k ((named-iff n k).0 e) (inr c) (entry-long k e b c)
+      go (Some k) e (inr b) (inr c) = payload k ((named-iff n k).0 e) b c (entry-payload k e b c)
 
   -- a payload is not larger than one may be, nor than the lent bytes
   pub payload-fits : {k : Kind} → entry_to n size room ≡ Payload k → (size ≤ 8192) × (size ≤ room)
@@ -83,3 +99,6 @@ module _ (n size room : ℕ) where
       go (unlisted f e) = absurd (f k h)
       go (oversized j f l e) = l
       go (payload j f b c e) = absurd (o j e)
+
+-- what the goals of judging an entry want
+pub ruleset entries = (kind-some, kind-none, entry-unlisted, entry-large, entry-long, entry-payload)

@@ -6,10 +6,9 @@ use mathlib.Core.List.{List, [], ◌∷◌}
 use native.Mathlib.Omega.{arith}
 use native.Mathlib.Numerals.{unary_clauses}
 use lib.ListN.{length, take, drop}
+use Rattle.std.specs.Prelude.{Option, Some, None}
 use Rattle.reader.specs.Reader.{answer_to}
 use Rattle.reader.specs.User.{part_from, user_part}
-use Rattle.answers.specs.declared.Rest.{Rest}
-use Rattle.answers.specs.declared.Rest.TheVariants.{From, Nowhere}
 use Rattle.reader.proofs.Local.{local}
 
 take_none : (m : ℕ) → ◌≡◌ {A = List ℕ} (take m []) []
@@ -23,9 +22,9 @@ within (suc k) zero s = let z : 0 - suc k ≡ 0 = omega arith in ap (λ (m : ℕ
 within (suc k) (suc n) [] = take_none (suc n - suc k)
 within (suc k) (suc n) (x ∷ s) = simp unary_clauses (within k n s)
 
-from_start : (x : Rest) (size : ℕ) (s t : List ℕ) → take size s ≡ take size t → part_from x size s ≡ part_from x size t
-from_start (From k) size s t e = within k size s ∙ ap (drop k) e ∙ sym (within k size t)
-from_start Nowhere size s t e = refl
+from_start : (x : Option ℕ) (size : ℕ) (s t : List ℕ) → take size s ≡ take size t → part_from x size s ≡ part_from x size t
+from_start (Some k) size s t e = within k size s ∙ ap (drop k) e ∙ sym (within k size t)
+from_start None size s t e = refl
 
 pub user-part-local : (n size : ℕ) (s t : List ℕ) → size ≤ length s → size ≤ length t → take size s ≡ take size t → user_part n size s ≡ user_part n size t
 unfolding user_part

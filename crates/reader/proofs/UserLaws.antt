@@ -9,7 +9,7 @@ use borrow.Author.Tests.{ne_eqb}
 use lib.Dec.{eqb}
 use lib.ListN.{length, take, drop}
 use lib.Seq.{length-take-le}
-use Rattle.std.specs.Prelude.{if◌then◌else◌}
+use Rattle.std.specs.Prelude.{if◌then◌else◌, Option, Some, None}
 use Rattle.bits.specs.Bits.{part, unsigned_of}
 use Rattle.bits.specs.Identifier.{bytes_of}
 use Rattle.bits.specs.Refusals.{by_size}
@@ -26,8 +26,6 @@ use Rattle.answers.specs.declared.kind.Kind.TheVariants as kinds
 use Rattle.answers.specs.declared.Answer.{Answer}
 use Rattle.answers.specs.declared.Brief.{Brief}
 use Rattle.answers.specs.declared.Outcome.TheVariants.{Taken}
-use Rattle.answers.specs.declared.Rest.{Rest}
-use Rattle.answers.specs.declared.Rest.TheVariants.{From, Nowhere}
 use Rattle.answers.proofs.KindLaws.{RestOf, registered, unregistered, neither, rest-of}
 use Rattle.reader.proofs.Calls.{to-oversized, to-payload, Call, unlisted, oversized, payload, call}
 use Rattle.reader.proofs.UserHeads.{first, first-take, coded, four, five}
@@ -35,16 +33,16 @@ use Rattle.reader.proofs.UserHeads as heads
 
 -- ---- where a part starts, that lies within the size, and the size within the lent bytes
 
-abbrev rest_of : Answer → Rest
+abbrev rest_of : Answer → Option ℕ
 rest_of a = a.rest
 
-abbrev pub start_of : Brief → Rest
+abbrev pub start_of : Brief → Option ℕ
 start_of b = b.rest
 
-never : {X : Type 0} {a : ℕ} → Nowhere ≡ From a → X
+never : {X : Type 0} {a : ℕ} → None ≡ Some a → X
 never e = let z : ◌≡◌ {A = ℕ} 0 1 = cc in absurd (omega arith)
 
-same : {a b : ℕ} → From a ≡ From b → a ≡ b
+same : {a b : ℕ} → Some a ≡ Some b → a ≡ b
 same e = cc
 
 head-1 : (code extension : ℕ) → (code ≡ 255 → ⊥) → head_bytes (coded code extension) ≡ 1
@@ -54,13 +52,13 @@ head-2 : (code extension : ℕ) → code ≡ 255 → head_bytes (coded code exte
 head-2 code extension h = ap (λ c. if eqb c 255 then 2 else 1) h
 
 -- the start in a payload s of kind k
-abbrev starts : Kind → List ℕ → Rest
+abbrev starts : Kind → List ℕ → Option ℕ
 starts k s = rest_of (answer_for k (reading_of k s))
 
-four-inside : (s : List ℕ) {a : ℕ} → starts kinds.Registered s ≡ From a → a ≤ length s
+four-inside : (s : List ℕ) {a : ℕ} → starts kinds.Registered s ≡ Some a → a ≤ length s
 four-inside s {a} h = go (four s)
   where
-    by : {x : Reading (Record kinds.Registered)} → reading_of kinds.Registered s ≡ x → rest_of (answer_for kinds.Registered x) ≡ From a
+    by : {x : Reading (Record kinds.Registered)} → reading_of kinds.Registered s ≡ x → rest_of (answer_for kinds.Registered x) ≡ Some a
     by e = ap (λ x. rest_of (answer_for kinds.Registered x)) (sym e) ∙ h
 
     go : heads.Four s → a ≤ length s
@@ -69,10 +67,10 @@ four-inside s {a} h = go (four s)
     go (heads.one l f e) = omega (arith, head-1 (first s) 0 f, same (by e))
     go (heads.two l f e) = omega (arith, head-2 (first s) (unsigned_of (part s 8 8)) f, same (by e))
 
-five-inside : (s : List ℕ) {a : ℕ} → starts kinds.Unregistered s ≡ From a → a ≤ length s
+five-inside : (s : List ℕ) {a : ℕ} → starts kinds.Unregistered s ≡ Some a → a ≤ length s
 five-inside s {a} h = go (five s)
   where
-    by : {x : Reading (Record kinds.Unregistered)} → reading_of kinds.Unregistered s ≡ x → rest_of (answer_for kinds.Unregistered x) ≡ From a
+    by : {x : Reading (Record kinds.Unregistered)} → reading_of kinds.Unregistered s ≡ x → rest_of (answer_for kinds.Unregistered x) ≡ Some a
     by e = ap (λ x. rest_of (answer_for kinds.Unregistered x)) (sym e) ∙ h
 
     go : heads.Five s → a ≤ length s
@@ -80,20 +78,20 @@ five-inside s {a} h = go (five s)
     go (heads.whole l e) = omega (arith, same (by e))
 
 -- no other kind has a part
-no_start : (k : Kind) → ((a : Record k) → (listing k).rest a ≡ Nowhere) → (x : Reading (Record k)) → rest_of (answer_for k x) ≡ Nowhere
+no_start : (k : Kind) → ((a : Record k) → (listing k).rest a ≡ None) → (x : Reading (Record k)) → rest_of (answer_for k x) ≡ None
 no_start k h (taken a e) = h a
 no_start k h (set_aside a e) = refl
 no_start k h (refused r) = refl
 
-inside : {k : Kind} → RestOf k → (s : List ℕ) {a : ℕ} → starts k s ≡ From a → a ≤ length s
+inside : {k : Kind} → RestOf k → (s : List ℕ) {a : ℕ} → starts k s ≡ Some a → a ≤ length s
 inside registered s h = four-inside s h
 inside unregistered s h = five-inside s h
 inside {k} (neither n) s h = never (sym (no_start k n (reading_of k s)) ∙ h)
 
-pub within : (n size : ℕ) (bytes : List ℕ) {a : ℕ} → rest_of (answer_to n size bytes) ≡ From a → (a ≤ size) × (size ≤ length bytes)
+pub within : (n size : ℕ) (bytes : List ℕ) {a : ℕ} → rest_of (answer_to n size bytes) ≡ Some a → (a ≤ size) × (size ≤ length bytes)
 within n size bytes {a} h = go (call n size bytes)
   where
-    by : {x : Answer} → answer_to n size bytes ≡ x → rest_of x ≡ From a
+    by : {x : Answer} → answer_to n size bytes ≡ x → rest_of x ≡ Some a
     by e = ap rest_of (sym e) ∙ h
 
     go : Call n size bytes → (a ≤ size) × (size ≤ length bytes)
@@ -106,15 +104,15 @@ within n size bytes {a} h = go (call n size bytes)
 
 -- ---- what has no part
 
-rest-refused : (k : Kind) (x : Reading (Record k)) → (answer_number (answer_for k x) ≡ 0 → ⊥) → rest_of (answer_for k x) ≡ Nowhere
+rest-refused : (k : Kind) (x : Reading (Record k)) → (answer_number (answer_for k x) ≡ 0 → ⊥) → rest_of (answer_for k x) ≡ None
 rest-refused k (taken a e) h = absurd (h refl)
 rest-refused k (set_aside a e) h = refl
 rest-refused k (refused r) h = refl
 
 module _ (n size : ℕ) (bytes : List ℕ) where
-  by-start : {x : Rest} → rest_of (answer_to n size bytes) ≡ x → user_part n size bytes ≡ part_from x size bytes
+  by-start : {x : Option ℕ} → rest_of (answer_to n size bytes) ≡ x → user_part n size bytes ≡ part_from x size bytes
   unfolding user_part
-  by-start e = ap (λ (x : Rest). part_from x size bytes) e
+  by-start e = ap (λ (x : Option ℕ). part_from x size bytes) e
 
   -- the part is empty where the number is not 0 ..
   pub part-refused : (answer_number (answer_to n size bytes) ≡ 0 → ⊥) → user_part n size bytes ≡ []
@@ -129,7 +127,7 @@ module _ (n size : ℕ) (bytes : List ℕ) where
   pub part-other : n ≢ 4 → n ≢ 5 → user_part n size bytes ≡ []
   part-other f g = go (call n size bytes)
     where
-      at : {k : Kind} → RestOf k → n ≡ number k → rest_of (answer_for k (reading_of k (take size bytes))) ≡ Nowhere
+      at : {k : Kind} → RestOf k → n ≡ number k → rest_of (answer_for k (reading_of k (take size bytes))) ≡ None
       at registered h = absurd (f h)
       at unregistered h = absurd (g h)
       at {k} (neither m) h = no_start k m (reading_of k (take size bytes))
@@ -228,7 +226,7 @@ module _ (size : ℕ) (bytes : List ℕ) where
       go (over o e) = not-over o b c
       go (cut _ _ (inl d) e) = absurd (omega arith)
       go (cut _ _ (inr d) e) = absurd (f d.0)
-      go (one _ _ _ _ e) = by-start 4 size bytes (ap rest_of e ∙ ap From (head-1 (first bytes) 0 f))
+      go (one _ _ _ _ e) = by-start 4 size bytes (ap rest_of e ∙ ap Some (head-1 (first bytes) 0 f))
       go (two _ _ _ _ g e) = absurd (f g)
 
   pub part-4-extended : size ≤ 8192 → size ≤ length bytes → 2 ≤ size → first bytes ≡ 255 → user_part 4 size bytes ≡ take (size - 2) (drop 2 bytes)
@@ -239,7 +237,7 @@ module _ (size : ℕ) (bytes : List ℕ) where
       go (cut _ _ (inl d) e) = absurd (omega arith)
       go (cut _ _ (inr d) e) = absurd (omega (arith, d.1))
       go (one _ _ _ g e) = absurd (g f)
-      go (two x _ _ _ _ e) = by-start 4 size bytes (ap rest_of e ∙ ap From (head-2 (first bytes) x f))
+      go (two x _ _ _ _ e) = by-start 4 size bytes (ap rest_of e ∙ ap Some (head-2 (first bytes) x f))
 
   -- ---- kind 5
 

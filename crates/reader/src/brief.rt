@@ -12,10 +12,9 @@ use messages::brief_of;
 pub fn brief(kind: u64, size: u64, bytes: &[u8]) -> Brief
     ensures { result ≡ brief_of (answer_to kind size bytes.now) }
 {
-    let entry = judged(kind, size, bytes.len());
-    match entry {
-        Entry::Unlisted => return Brief::unknown(),
-        Entry::Oversized(k) => return Brief::refused(k, Refusal::size()),
-        Entry::Payload(k) => return brief_of(k, front(bytes, size as usize)),
+    match judged(kind, size, bytes.len()) {
+        Entry::Unlisted => Brief::unknown(),
+        Entry::Oversized(k) => Brief::refused(k, Refusal::size()),
+        Entry::Payload(k) => brief_of(k, front(bytes, size as usize)),
     }
 }

@@ -2,9 +2,9 @@
 ghost use Rattle.std.specs.Prelude.{◌≡◌};
 ghost use Rattle.reader.specs.Entry.{entry_to};
 
-use answers::kind::{Kind, Named};
+use answers::kind::Kind;
 
-#[derive(Clone, Copy)]
+#[derive(Clone, Copy, Debug, PartialEq, Eq)]
 pub enum Entry {
     Unlisted,
     Oversized(Kind),
@@ -12,17 +12,14 @@ pub enum Entry {
 }
 
 // `room` is how many bytes are lent.
+#[tactic(auto, using(crate::proofs::EntryLaws::entries))]
 pub fn judged(kind: u64, size: u64, room: usize) -> Entry
     ensures { result ≡ entry_to kind size room }
 {
-    let named = Named::by(kind);
-    let Named::Listed(k) = named else {
+    let Ok(k) = Kind::try_from(kind) else {
         return Entry::Unlisted;
     };
-    if 8192 < size {
-        return Entry::Oversized(k);
-    }
-    if (room as u64) < size {
+    if 8192 < size || (room as u64) < size {
         return Entry::Oversized(k);
     }
     Entry::Payload(k)

@@ -3,17 +3,13 @@ ghost use Rattle.std.specs.Prelude.{◌≡◌};
 ghost use Rattle.reader.specs.User.{user_part};
 
 use crate::brief::brief;
-use answers::Rest;
 
 // The part ends with the payload, not with the lent bytes.
 pub fn user_part(kind: u64, size: u64, bytes: &[u8]) -> &[u8]
     ensures { result.now ≡ user_part kind size bytes.now }
 {
-    let brief = brief(kind, size, bytes);
-    let rest = brief.rest;
-    let Rest::From(a) = rest else {
-        return &bytes[..0];
-    };
-    let end = size as usize;
-    &bytes[a..end]
+    match brief(kind, size, bytes).rest {
+        Some(start) => &bytes[start..size as usize],
+        None => &[],
+    }
 }

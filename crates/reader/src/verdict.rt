@@ -11,8 +11,7 @@ use messages::outcome_of;
 pub fn number(kind: u64, size: u64, bytes: &[u8]) -> u32
     ensures { result ≡ answer_number (answer_to kind size bytes.now) }
 {
-    let entry = judged(kind, size, bytes.len());
-    match entry {
+    match judged(kind, size, bytes.len()) {
         Entry::Unlisted => Refusal::kind().number(),
         Entry::Oversized(_) => Refusal::size().number(),
         Entry::Payload(k) => outcome_of(k, front(bytes, size as usize)).number(),

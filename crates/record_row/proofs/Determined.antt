@@ -1,6 +1,6 @@
 -- Each public contract determines its result, and that of `write` the lent row as it leaves it.
 -- Assumes nothing.
-use mathlib.Core.Path.{sym, ◌∙◌}
+use mathlib.Core.Path.{refl, sym, ◌∙◌}
 use Rattle.bits.proofs.Determined.{Determines, DeterminesAll}
 use Rattle.lent.proofs.Stores.{same_left}
 use Rattle.record_row.proofs.record.frame_packing.Kinds as frame-packing-kinds
@@ -13,14 +13,14 @@ use Rattle.record_row.proofs.record.rotation.Kinds as rotation-kinds
 use Rattle.record_row.proofs.record.rotation.Reads as rotation-reads
 use Rattle.record_row.proofs.record.region_wise.Kinds as region-wise-kinds
 use Rattle.record_row.proofs.record.region_wise.Reads as region-wise-reads
-use Rattle.record_row.proofs.record.alpha.Kinds as alpha-kinds
-use Rattle.record_row.proofs.record.alpha.Reads as alpha-reads
-use Rattle.record_row.proofs.record.depth.Kinds as depth-kinds
-use Rattle.record_row.proofs.record.depth.Reads as depth-reads
-use Rattle.record_row.proofs.record.registered.Kinds as registered-kinds
-use Rattle.record_row.proofs.record.registered.Reads as registered-reads
-use Rattle.record_row.proofs.record.unregistered.Kinds as unregistered-kinds
-use Rattle.record_row.proofs.record.unregistered.Reads as unregistered-reads
+use Rattle.record_row.proofs.record.AlphaRow.put.Kinds as alpha-kinds
+use Rattle.record_row.proofs.record.AlphaRow.put.Reads as alpha-reads
+use Rattle.record_row.proofs.record.DepthRow.put.Kinds as depth-kinds
+use Rattle.record_row.proofs.record.DepthRow.put.Reads as depth-reads
+use Rattle.record_row.proofs.record.RegisteredRow.put.Kinds as registered-kinds
+use Rattle.record_row.proofs.record.RegisteredRow.put.Reads as registered-reads
+use Rattle.record_row.proofs.record.UnregisteredRow.put.Kinds as unregistered-kinds
+use Rattle.record_row.proofs.record.UnregisteredRow.put.Reads as unregistered-reads
 use Rattle.record_row.proofs.handing.write.Kinds as write-kinds
 use Rattle.record_row.proofs.handing.write.Reads as write-reads
 
@@ -39,17 +39,17 @@ rotation-determined κs a x y s t p q = p ∙ sym q
 pub region-wise-determined : Determines 0 region-wise-kinds.ps region-wise-kinds.r region-wise-reads.Post
 region-wise-determined κs a x y s t p q = p ∙ sym q
 
-pub alpha-determined : Determines 0 alpha-kinds.ps alpha-kinds.r alpha-reads.Post
-alpha-determined κs a x y s t p q = p ∙ sym q
+pub alpha-determined : DeterminesAll 1 alpha-kinds.ps alpha-kinds.r (λ κs s. s.1.0.now) alpha-reads.Post
+alpha-determined κs a x y s t p q = (refl, p ∙ sym q)
 
-pub depth-determined : Determines 0 depth-kinds.ps depth-kinds.r depth-reads.Post
-depth-determined κs a x y s t p q = p ∙ sym q
+pub depth-determined : DeterminesAll 1 depth-kinds.ps depth-kinds.r (λ κs s. s.1.0.now) depth-reads.Post
+depth-determined κs a x y s t p q = (refl, p ∙ sym q)
 
-pub registered-determined : Determines 0 registered-kinds.ps registered-kinds.r registered-reads.Post
-registered-determined κs a x y s t p q = p ∙ sym q
+pub registered-determined : DeterminesAll 1 registered-kinds.ps registered-kinds.r (λ κs s. s.1.0.now) registered-reads.Post
+registered-determined κs a x y s t p q = (refl, p ∙ sym q)
 
-pub unregistered-determined : Determines 0 unregistered-kinds.ps unregistered-kinds.r unregistered-reads.Post
-unregistered-determined κs a x y s t p q = p ∙ sym q
+pub unregistered-determined : DeterminesAll 1 unregistered-kinds.ps unregistered-kinds.r (λ κs s. s.1.0.now) unregistered-reads.Post
+unregistered-determined κs a x y s t p q = (refl, p ∙ sym q)
 
 -- the row is the fourth parameter
 pub write-determined : DeterminesAll 2 write-kinds.ps write-kinds.r (λ κs s. s.1.1.1.0.now) write-reads.Post

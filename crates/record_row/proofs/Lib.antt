@@ -1,5 +1,4 @@
 -- The theorems of this crate, beside the proofs of its functions.
 mod RowLaws
-mod Filled
 mod HandingLaws
 pub mod Determined

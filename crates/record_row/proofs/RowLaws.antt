@@ -12,18 +12,12 @@ use Rattle.lent.proofs.Stores.{sets-append}
 use Rattle.record_row.specs.Fields.{region_fields, regions_fields}
 
 -- zeros, all written over
-pub filled : (n : ℕ) (xs q : List ℕ) → length xs ≡ n → q ≡ sets (replicate n 0) 0 xs → q ≡ xs
-filled n xs q h e =
+pub filled : (n e : ℕ) (xs : List ℕ) → length xs + 1 ≡ n → sets (replicate n 0) 0 (e ∷ xs) ≡ e ∷ xs
+filled n e xs h =
     let l : List ℕ = replicate n 0 in
     let long : length l ≡ n = length-replicate n 0 in
-    let past : drop (0 + length xs) l ≡ [] = drop_of_length-le l {i = 0 + length xs} (omega arith) in
-    e ∙ sets-eq xs l 0 (omega arith) ∙ rw past (append-nil xs)
-
--- the list l with xs written over its first n, and then ys after them
-pub joined : (xs ys l r q : List ℕ) (n : ℕ) → length xs ≡ n → r ≡ sets l 0 xs → q ≡ sets r n ys → q ≡ sets l 0 (xs ++ ys)
-joined xs ys l r q n e h k =
-    let a : 0 + length xs ≡ n = omega arith in
-    k ∙ sym (rw (sets-append xs ys l 0, a, h))
+    let past : drop (0 + length (e ∷ xs)) l ≡ [] = drop_of_length-le l {i = 0 + length (e ∷ xs)} (omega arith) in
+    sets-eq (e ∷ xs) l 0 (omega arith) ∙ rw past (append-nil (e ∷ xs))
 
 -- ---- the fields of a run of regions
 
@@ -32,14 +26,14 @@ fields-append [] ys = refl
 fields-append (r ∷ rs) ys =
     ap (λ (t : List ℕ). region_fields r ++ t) (fields-append rs ys) ∙ sym (append_assoc (region_fields r) (regions_fields rs) (regions_fields ys))
 
-pub fields-length : (rs : List Region) → length (regions_fields rs) ≡ 19 * length rs
-fields-length [] = refl
-fields-length (r ∷ rs) = omega (arith, fields-length rs)
+pub fields_length : (rs : List Region) → length (regions_fields rs) ≡ 19 * length rs
+fields_length [] = refl
+fields_length (r ∷ rs) = omega (arith, fields_length rs)
 
 -- one region more
-pub fields-more : (l : List ℕ) (rs : List Region) (at i : ℕ) (d : Region) → i < length rs
+pub fields_more : (l : List ℕ) (rs : List Region) (at i : ℕ) (d : Region) → i < length rs
     → sets (sets l at (regions_fields (take i rs))) (at + 19 * i) (region_fields (get_or rs i d)) ≡ sets l at (regions_fields (take (i + 1) rs))
-fields-more l rs at i d h =
-    let n : length (regions_fields (take i rs)) ≡ 19 * i = fields-length (take i rs) ∙ ap (λ (k : ℕ). 19 * k) (length-take-le i rs (omega arith)) in
+fields_more l rs at i d h =
+    let n : length (regions_fields (take i rs)) ≡ 19 * i = fields_length (take i rs) ∙ ap (λ (k : ℕ). 19 * k) (length-take-le i rs (omega arith)) in
     let two = sets-append (regions_fields (take i rs)) (region_fields (get_or rs i d)) l at in
     sym (rw (add-one, take-suc rs i d h, fields-append, two, n))

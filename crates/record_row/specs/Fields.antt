@@ -11,6 +11,7 @@ use Rattle.kind_alpha.specs.declared.Alpha.{Alpha}
 use Rattle.kind_depth.specs.declared.Depth.{Depth}
 use Rattle.kind_depth.specs.declared.element.DepthValue.{DepthValue}
 use Rattle.kind_user_data.specs.declared.registered.Registered.{Registered}
+use Rattle.kind_user_data.specs.declared.unregistered.Unregistered.{Unregistered}
 use Rattle.answers.specs.declared.Beside.{Beside}
 use Rattle.answers.specs.declared.kind.LastingMessage.{LastingMessage}
 use Rattle.answers.specs.declared.kind.LastingMessage.TheVariants as lasting
@@ -168,6 +169,9 @@ depth_fields a =
 abbrev pub registered_fields : Registered → List ℕ
 registered_fields a = a.itu_t_t35_country_code ∷ a.itu_t_t35_country_code_extension_byte ∷ []
 
+abbrev pub unregistered_fields : Unregistered → List ℕ
+unregistered_fields a = a.uuid_iso_iec_11578
+
 -- ---- of a message, and of the record that stands beside it
 
 abbrev pub lasting_fields : Beside → LastingMessage → List ℕ
@@ -181,7 +185,7 @@ abbrev pub passing_fields : Beside → PassingMessage → List ℕ
 passing_fields b (passing.Alpha m) = alpha_fields m
 passing_fields b passing.Depth = depth_fields b.depth
 passing_fields b (passing.Registered m) = registered_fields m
-passing_fields b passing.Unregistered = b.unregistered.uuid_iso_iec_11578
+passing_fields b passing.Unregistered = unregistered_fields b.unregistered
 
 abbrev pub record_fields : Beside → Message → List ℕ
 record_fields b Nothing = []

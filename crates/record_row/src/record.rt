@@ -1,16 +1,16 @@
 // The fields of each kind's record as numbers, after the extension count; and a message's, handed out to a lent row.
-ghost use Rattle.std.specs.Prelude.{◌≡◌, ◌+◌, ◌*◌, ◌≤◌, ◌∷◌, length};
+ghost use Rattle.std.specs.Prelude.{◌≡◌, ◌+◌, ◌*◌, ◌≤◌, ◌∷◌, [], length};
 ghost use Rattle.std.proofs.lemmas.List.Edits.{sets};
-ghost use Rattle.kind_region_wise.specs.RegionWise.{most};
 ghost use Rattle.bits.specs.Signed.{twos_of};
 ghost use Rattle.answers.specs.Listed.{nothing};
+ghost use Rattle.answers.specs.Answer.{outcome_number};
 ghost use Rattle.lent.specs.Lent.{left};
-ghost use Rattle.record_row.specs.Handing.{handed_over};
-ghost use Rattle.record_row.specs.Fields.{frame_packing_fields, orientation_fields, equirectangular_fields, rotation_fields, alpha_fields, registered_fields, state_of, depth_bits_of, value_fields, depth_fields, region_fields, regions_fields, region_wise_fields, lasting_fields, passing_fields};
+ghost use Rattle.record_row.specs.Handing.{wrote_by};
+ghost use Rattle.record_row.specs.Fields.{frame_packing_fields, orientation_fields, equirectangular_fields, rotation_fields, alpha_fields, registered_fields, unregistered_fields, state_of, depth_bits_of, value_fields, depth_fields, region_fields, regions_fields, region_wise_fields, lasting_fields, passing_fields};
 
-use crate::row::{hand, put_identifier, put_model};
+use crate::row::{Row, filled, hand};
+use answers::Outcome;
 use answers::kind::{LastingMessage, PassingMessage};
-use bits::refusal::Refusal;
 use kind_alpha::Alpha;
 use kind_depth::element::DepthValue;
 use kind_depth::{Depth, model};
@@ -26,112 +26,180 @@ use lent::put;
 use numbers::degrees::degree_bits;
 use numbers::depth::{DepthNumber, depth_bits};
 
+// Of a message that has no record.
+impl Row for () {
+    ghost fields = { λ _. [] };
+
+    fn count(self) -> usize {
+        0
+    }
+
+    fn put(self, row: &mut [u64], at: usize) {}
+}
+
+impl Row for FramePacking {
+    ghost fields = { frame_packing_fields };
+
+    fn count(self) -> usize {
+        17
+    }
+
+    fn put(self, row: &mut [u64], at: usize) {
+        let layout = self.layout;
+        let flags = layout.flags;
+        let grid = layout.grid;
+        let fields = [
+            u64::from(self.fp_arrangement_id),
+            u64::from(self.fp_arrangement_cancel_flag),
+            u64::from(layout.fp_arrangement_type),
+            u64::from(layout.fp_quincunx_sampling_flag),
+            u64::from(layout.fp_content_interpretation_type),
+            u64::from(flags.fp_spatial_flipping_flag),
+            u64::from(flags.fp_frame0_flipped_flag),
+            u64::from(flags.fp_field_views_flag),
+            u64::from(flags.fp_current_frame_is_frame0_flag),
+            u64::from(flags.fp_frame0_self_contained_flag),
+            u64::from(flags.fp_frame1_self_contained_flag),
+            u64::from(grid.fp_frame0_grid_position_x),
+            u64::from(grid.fp_frame0_grid_position_y),
+            u64::from(grid.fp_frame1_grid_position_x),
+            u64::from(grid.fp_frame1_grid_position_y),
+            u64::from(layout.fp_arrangement_persistence_flag),
+            u64::from(self.fp_upsampled_aspect_ratio_flag),
+        ];
+        put(row, at, &fields);
+    }
+}
+
 pub fn frame_packing(extension: u32, a: FramePacking) -> [u64; 18]
     ensures { result ≡ extension ∷ frame_packing_fields a }
 {
-    let layout = a.layout;
-    let flags = layout.flags;
-    let grid = layout.grid;
-    [
-        extension as u64,
-        a.fp_arrangement_id as u64,
-        a.fp_arrangement_cancel_flag as u64,
-        layout.fp_arrangement_type as u64,
-        layout.fp_quincunx_sampling_flag as u64,
-        layout.fp_content_interpretation_type as u64,
-        flags.fp_spatial_flipping_flag as u64,
-        flags.fp_frame0_flipped_flag as u64,
-        flags.fp_field_views_flag as u64,
-        flags.fp_current_frame_is_frame0_flag as u64,
-        flags.fp_frame0_self_contained_flag as u64,
-        flags.fp_frame1_self_contained_flag as u64,
-        grid.fp_frame0_grid_position_x as u64,
-        grid.fp_frame0_grid_position_y as u64,
-        grid.fp_frame1_grid_position_x as u64,
-        grid.fp_frame1_grid_position_y as u64,
-        layout.fp_arrangement_persistence_flag as u64,
-        a.fp_upsampled_aspect_ratio_flag as u64,
-    ]
+    filled::<_, 18>(extension, a)
+}
+
+impl Row for Orientation {
+    ghost fields = { orientation_fields };
+
+    fn count(self) -> usize {
+        3
+    }
+
+    fn put(self, row: &mut [u64], at: usize) {
+        let fields = [
+            self.display_orientation_cancel_flag,
+            self.display_orientation_persistence_flag,
+            self.display_orientation_transform_type,
+        ];
+        put(row, at, &fields);
+    }
 }
 
 pub fn orientation(extension: u32, a: Orientation) -> [u64; 4]
     ensures { result ≡ extension ∷ orientation_fields a }
 {
-    [
-        extension as u64,
-        a.display_orientation_cancel_flag as u64,
-        a.display_orientation_persistence_flag as u64,
-        a.display_orientation_transform_type as u64,
-    ]
+    filled::<_, 4>(extension, a)
+}
+
+impl Row for Equirectangular {
+    ghost fields = { equirectangular_fields };
+
+    fn count(self) -> usize {
+        6
+    }
+
+    fn put(self, row: &mut [u64], at: usize) {
+        let fields = [
+            self.erp_cancel_flag,
+            self.erp_persistence_flag,
+            self.erp_guard_band_flag,
+            self.erp_guard_band_type,
+            self.erp_left_guard_band_width,
+            self.erp_right_guard_band_width,
+        ];
+        put(row, at, &fields);
+    }
 }
 
 pub fn equirectangular(extension: u32, a: Equirectangular) -> [u64; 7]
     ensures { result ≡ extension ∷ equirectangular_fields a }
 {
-    [
-        extension as u64,
-        a.erp_cancel_flag as u64,
-        a.erp_persistence_flag as u64,
-        a.erp_guard_band_flag as u64,
-        a.erp_guard_band_type as u64,
-        a.erp_left_guard_band_width as u64,
-        a.erp_right_guard_band_width as u64,
-    ]
+    filled::<_, 7>(extension, a)
 }
 
 // The 32 bits of a number in two's complement.
 fn twos(c: i32) -> u64
     ensures { result ≡ twos_of c }
 {
-    if 0 <= c {
-        return c as u64;
+    u64::from(c.cast_unsigned())
+}
+
+impl Row for Rotation {
+    ghost fields = { rotation_fields };
+
+    fn count(self) -> usize {
+        8
     }
-    4294967295 - (!c) as u64
+
+    fn put(self, row: &mut [u64], at: usize) {
+        let yaw = self.yaw_rotation;
+        let pitch = self.pitch_rotation;
+        let roll = self.roll_rotation;
+        let fields = [
+            u64::from(self.sphere_rotation_cancel_flag),
+            u64::from(self.sphere_rotation_persistence_flag),
+            twos(yaw),
+            twos(pitch),
+            twos(roll),
+            degree_bits(yaw),
+            degree_bits(pitch),
+            degree_bits(roll),
+        ];
+        put(row, at, &fields);
+    }
 }
 
 pub fn rotation(extension: u32, a: Rotation) -> [u64; 9]
     ensures { result ≡ extension ∷ rotation_fields a }
 {
-    let yaw = a.yaw_rotation;
-    let pitch = a.pitch_rotation;
-    let roll = a.roll_rotation;
-    [
-        extension as u64,
-        a.sphere_rotation_cancel_flag as u64,
-        a.sphere_rotation_persistence_flag as u64,
-        twos(yaw),
-        twos(pitch),
-        twos(roll),
-        degree_bits(yaw),
-        degree_bits(pitch),
-        degree_bits(roll),
-    ]
+    filled::<_, 9>(extension, a)
 }
 
-pub(crate) fn alpha(extension: u32, a: Alpha) -> [u64; 9]
-    ensures { result ≡ extension ∷ alpha_fields a }
-{
-    [
-        extension as u64,
-        a.alpha_channel_cancel_flag as u64,
-        a.alpha_channel_use_idc as u64,
-        a.alpha_channel_bit_depth_minus8 as u64,
-        a.alpha_transparent_value as u64,
-        a.alpha_opaque_value as u64,
-        a.alpha_channel_incr_flag as u64,
-        a.alpha_channel_clip_flag as u64,
-        a.alpha_channel_clip_type_flag as u64,
-    ]
+impl Row for Alpha {
+    ghost fields = { alpha_fields };
+
+    fn count(self) -> usize {
+        8
+    }
+
+    fn put(self, row: &mut [u64], at: usize) {
+        let fields = [
+            u64::from(self.alpha_channel_cancel_flag),
+            u64::from(self.alpha_channel_use_idc),
+            u64::from(self.alpha_channel_bit_depth_minus8),
+            u64::from(self.alpha_transparent_value),
+            u64::from(self.alpha_opaque_value),
+            u64::from(self.alpha_channel_incr_flag),
+            u64::from(self.alpha_channel_clip_flag),
+            u64::from(self.alpha_channel_clip_type_flag),
+        ];
+        put(row, at, &fields);
+    }
 }
 
-pub(crate) fn registered(extension: u32, a: Registered) -> [u64; 3]
-    ensures { result ≡ extension ∷ registered_fields a }
-{
-    [
-        extension as u64,
-        a.itu_t_t35_country_code as u64,
-        a.itu_t_t35_country_code_extension_byte as u64,
-    ]
+impl Row for Registered {
+    ghost fields = { registered_fields };
+
+    fn count(self) -> usize {
+        2
+    }
+
+    fn put(self, row: &mut [u64], at: usize) {
+        let fields = [
+            self.itu_t_t35_country_code,
+            self.itu_t_t35_country_code_extension_byte,
+        ];
+        put(row, at, &fields);
+    }
 }
 
 fn state(n: DepthNumber) -> u64
@@ -148,229 +216,204 @@ fn state(n: DepthNumber) -> u64
 fn number_bits(sign: u8, exponent: u8, length_minus1: u8, mantissa: u32) -> u64
     ensures { result ≡ depth_bits_of sign exponent length_minus1 mantissa }
 {
-    if 1 < sign {
-        return 0;
+    if sign < 2
+        && exponent < 128
+        && length_minus1 < 32
+        && u64::from(mantissa) < 1 << (length_minus1 + 1)
+    {
+        return depth_bits(sign, exponent, length_minus1, mantissa);
     }
-    if 127 < exponent {
-        return 0;
+    0
+}
+
+impl Row for DepthValue {
+    ghost fields = { value_fields };
+
+    fn count(self) -> usize {
+        6
     }
-    if 31 < length_minus1 {
-        return 0;
-    }
-    let n = mantissa as u64;
-    let most: u64 = 1 << (length_minus1 as u64 + 1);
-    if most <= n {
-        return 0;
-    }
-    depth_bits(sign, exponent, length_minus1, mantissa)
-}
 
-fn value(a: DepthValue) -> [u64; 6]
-    ensures { result ≡ value_fields a }
-{
-    let number = a.number;
-    [
-        a.da_sign_flag as u64,
-        a.da_exponent as u64,
-        a.da_mantissa_len_minus1 as u64,
-        a.da_mantissa as u64,
-        state(number),
-        number_bits(
-            a.da_sign_flag,
-            a.da_exponent,
-            a.da_mantissa_len_minus1,
-            a.da_mantissa,
-        ),
-    ]
-}
-
-fn put_value(row: &mut [u64], at: usize, a: DepthValue)
-    requires { at + 6 ≤ length row.old }
-    ensures { row.new ≡ sets row.old at (value_fields a) }
-{
-    let fields = value(a);
-    put(row, at, &fields);
-}
-
-// The extension count, 31 numbers before the list, and every entry of it.
-pub const DEPTH_FIELDS: usize = 32 + model::MOST;
-
-pub(crate) fn depth(extension: u32, a: Depth) -> [u64; DEPTH_FIELDS]
-    ensures { result ≡ extension ∷ depth_fields a }
-{
-    let z_near = a.z_near;
-    let z_far = a.z_far;
-    let d_min = a.d_min;
-    let d_max = a.d_max;
-    let count = [a.count as u64];
-    let model = a.depth_nonlinear_representation_model;
-    let head = [
-        extension as u64,
-        a.z_near_flag as u64,
-        a.z_far_flag as u64,
-        a.d_min_flag as u64,
-        a.d_max_flag as u64,
-        a.depth_representation_type as u64,
-        a.disparity_ref_view_id as u64,
-    ];
-    let mut r = [0u64; DEPTH_FIELDS];
-    put(&mut r, 0, &head);
-    put_value(&mut r, 7, z_near);
-    put_value(&mut r, 13, z_far);
-    put_value(&mut r, 19, d_min);
-    put_value(&mut r, 25, d_max);
-    put(&mut r, 31, &count);
-    put_model(&mut r, 32, model);
-    r
-}
-
-pub(crate) fn unregistered(extension: u32, a: Unregistered) -> [u64; 17]
-    ensures { result ≡ extension ∷ a.uuid_iso_iec_11578 }
-{
-    let identifier = a.uuid_iso_iec_11578;
-    let mut r = [0u64; 17];
-    r[0] = extension as u64;
-    put_identifier(&mut r, 1, identifier);
-    r
-}
-
-fn region(a: Region) -> [u64; 19]
-    ensures { result ≡ region_fields a }
-{
-    let projected = a.projected;
-    let packed = a.packed;
-    let guard = a.guard;
-    let types = guard.types;
-    [
-        a.rwp_transform_type as u64,
-        a.rwp_guard_band_flag as u64,
-        projected.rwp_proj_region_width as u64,
-        projected.rwp_proj_region_height as u64,
-        projected.rwp_proj_region_top as u64,
-        projected.rwp_proj_region_left as u64,
-        packed.rwp_packed_region_width as u64,
-        packed.rwp_packed_region_height as u64,
-        packed.rwp_packed_region_top as u64,
-        packed.rwp_packed_region_left as u64,
-        guard.rwp_left_guard_band_width as u64,
-        guard.rwp_right_guard_band_width as u64,
-        guard.rwp_top_guard_band_height as u64,
-        guard.rwp_bottom_guard_band_height as u64,
-        guard.rwp_guard_band_not_used_for_pred_flag as u64,
-        types.left as u64,
-        types.right as u64,
-        types.top as u64,
-        types.bottom as u64,
-    ]
-}
-
-fn put_region(row: &mut [u64], at: usize, a: Region)
-    requires { at + 19 ≤ length row.old }
-    ensures { row.new ≡ sets row.old at (region_fields a) }
-{
-    let fields = region(a);
-    put(row, at, &fields);
-}
-
-// Nineteen numbers a region, from `at` on.
-fn put_regions(row: &mut [u64], at: usize, regions: [Region; MOST])
-    requires { at + 19 * most ≤ length row.old }
-    ensures { row.new ≡ sets row.old at (regions_fields regions) }
-{
-    let mut i = 0;
-    while i < MOST {
-        put_region(row, at + 19 * i, regions[i]);
-        i += 1;
+    fn put(self, row: &mut [u64], at: usize) {
+        let sign = self.da_sign_flag;
+        let exponent = self.da_exponent;
+        let length_minus1 = self.da_mantissa_len_minus1;
+        let mantissa = self.da_mantissa;
+        let fields = [
+            u64::from(sign),
+            u64::from(exponent),
+            u64::from(length_minus1),
+            u64::from(mantissa),
+            state(self.number),
+            number_bits(sign, exponent, length_minus1, mantissa),
+        ];
+        put(row, at, &fields);
     }
 }
 
-// The extension count, eight numbers before the regions, and every region's.
-pub const REGION_WISE_FIELDS: usize = 9 + 19 * MOST;
+// What stands before the list, every entry of which follows.
+const BEFORE_MODEL: usize = 31;
 
-// All of them, over the front of a row that has room for them.
-fn put_region_wise(row: &mut [u64], extension: u32, a: RegionWise)
-    requires { 9 + 19 * most ≤ length row.old }
-    ensures { row.new ≡ sets row.old 0 (extension ∷ region_wise_fields a) }
-{
-    let regions = a.regions;
-    let head = [
-        extension as u64,
-        a.rwp_cancel_flag as u64,
-        a.rwp_persistence_flag as u64,
-        a.rwp_constituent_picture_matching_flag as u64,
-        a.rwp_num_packed_regions as u64,
-        a.rwp_proj_picture_width as u64,
-        a.rwp_proj_picture_height as u64,
-        a.rwp_packed_picture_width as u64,
-        a.rwp_packed_picture_height as u64,
-    ];
-    put(row, 0, &head);
-    put_regions(row, 9, regions);
+impl Row for Depth {
+    ghost fields = { depth_fields };
+
+    fn count(self) -> usize {
+        BEFORE_MODEL + model::MOST
+    }
+
+    fn put(self, row: &mut [u64], at: usize) {
+        let presence = [
+            u64::from(self.z_near_flag),
+            u64::from(self.z_far_flag),
+            u64::from(self.d_min_flag),
+            u64::from(self.d_max_flag),
+            u64::from(self.depth_representation_type),
+            u64::from(self.disparity_ref_view_id),
+        ];
+        put(row, at, &presence);
+        self.z_near.put(row, at + 6);
+        self.z_far.put(row, at + 12);
+        self.d_min.put(row, at + 18);
+        self.d_max.put(row, at + 24);
+        put(row, at + 30, &[self.count]);
+        put(
+            row,
+            at + BEFORE_MODEL,
+            &self.depth_nonlinear_representation_model,
+        );
+    }
 }
 
+impl Row for Unregistered {
+    ghost fields = { unregistered_fields };
+
+    fn count(self) -> usize {
+        16
+    }
+
+    fn put(self, row: &mut [u64], at: usize) {
+        put(row, at, &self.uuid_iso_iec_11578);
+    }
+}
+
+const REGION_FIELDS: usize = 19;
+
+impl Row for Region {
+    ghost fields = { region_fields };
+
+    fn count(self) -> usize {
+        REGION_FIELDS
+    }
+
+    fn put(self, row: &mut [u64], at: usize) {
+        let projected = self.projected;
+        let packed = self.packed;
+        let guard = self.guard;
+        let types = guard.types;
+        let fields = [
+            u64::from(self.rwp_transform_type),
+            u64::from(self.rwp_guard_band_flag),
+            u64::from(projected.rwp_proj_region_width),
+            u64::from(projected.rwp_proj_region_height),
+            u64::from(projected.rwp_proj_region_top),
+            u64::from(projected.rwp_proj_region_left),
+            u64::from(packed.rwp_packed_region_width),
+            u64::from(packed.rwp_packed_region_height),
+            u64::from(packed.rwp_packed_region_top),
+            u64::from(packed.rwp_packed_region_left),
+            u64::from(guard.rwp_left_guard_band_width),
+            u64::from(guard.rwp_right_guard_band_width),
+            u64::from(guard.rwp_top_guard_band_height),
+            u64::from(guard.rwp_bottom_guard_band_height),
+            u64::from(guard.rwp_guard_band_not_used_for_pred_flag),
+            u64::from(types.left),
+            u64::from(types.right),
+            u64::from(types.top),
+            u64::from(types.bottom),
+        ];
+        put(row, at, &fields);
+    }
+}
+
+// Those of one region after another.
+#[tactic(auto, using(crate::proofs::RowLaws::fields_more))]
+fn put_regions(row: &mut [u64], at: usize, regions: &[Region])
+    requires { at + 19 * length regions.now ≤ length row.old }
+    ensures { row.new ≡ sets row.old at (regions_fields regions.now) }
+{
+    for (i, r) in regions.iter().enumerate() {
+        r.put(row, at + REGION_FIELDS * i);
+    }
+}
+
+// What stands before the regions, every one of which follows.
+const BEFORE_REGIONS: usize = 8;
+
+// All of them, after the extension count.
+pub const REGION_WISE_FIELDS: usize = 1 + BEFORE_REGIONS + REGION_FIELDS * MOST;
+
+// Straight into a lent row: an array of them on the way would be the largest thing on the stack.
+impl Row for RegionWise {
+    ghost fields = { region_wise_fields };
+
+    #[tactic(auto, using(crate::proofs::RowLaws::fields_length))]
+    fn count(self) -> usize {
+        REGION_WISE_FIELDS - 1
+    }
+
+    #[tactic(auto, using(crate::proofs::RowLaws::fields_length))]
+    fn put(self, row: &mut [u64], at: usize) {
+        let head = [
+            u64::from(self.rwp_cancel_flag),
+            u64::from(self.rwp_persistence_flag),
+            u64::from(self.rwp_constituent_picture_matching_flag),
+            u64::from(self.rwp_num_packed_regions),
+            u64::from(self.rwp_proj_picture_width),
+            u64::from(self.rwp_proj_picture_height),
+            u64::from(self.rwp_packed_picture_width),
+            u64::from(self.rwp_packed_picture_height),
+        ];
+        put(row, at, &head);
+        put_regions(row, at + BEFORE_REGIONS, &self.regions);
+    }
+}
+
+#[tactic(auto, using(crate::proofs::RowLaws::fields_length))]
 pub fn region_wise(extension: u32, a: RegionWise) -> [u64; REGION_WISE_FIELDS]
     ensures { result ≡ extension ∷ region_wise_fields a }
 {
-    let mut r = [0u64; REGION_WISE_FIELDS];
-    put_region_wise(&mut r, extension, a);
-    r
-}
-
-// Straight into a lent row: an array of them on the way would be the largest thing on the stack.
-pub(crate) fn hand_regions(row: &mut [u64], number: u32, extension: u32, a: RegionWise) -> u32
-    ensures { left result row.new ≡ handed_over number (extension ∷ region_wise_fields a) row.old }
-{
-    if row.len() < REGION_WISE_FIELDS {
-        return Refusal::rows().number();
-    }
-    put_region_wise(row, extension, a);
-    number
+    filled::<_, REGION_WISE_FIELDS>(extension, a)
 }
 
 // A message with nothing beside it: a record that holds an array is zeros. Here and below.
-pub(crate) fn lasting(row: &mut [u64], number: u32, extension: u32, message: LastingMessage) -> u32
-    ensures { left result row.new ≡ handed_over number (extension ∷ lasting_fields nothing message) row.old }
+pub(crate) fn lasting(
+    row: &mut [u64],
+    outcome: Outcome,
+    extension: u32,
+    message: LastingMessage,
+) -> Outcome
+    ensures { left (outcome_number result) row.new ≡ wrote_by outcome (extension ∷ lasting_fields nothing message) row.old }
 {
     match message {
-        LastingMessage::FramePacking(m) => {
-            let fields = frame_packing(extension, m);
-            hand(row, number, &fields)
-        }
-        LastingMessage::Orientation(m) => {
-            let fields = orientation(extension, m);
-            hand(row, number, &fields)
-        }
-        LastingMessage::Equirectangular(m) => {
-            let fields = equirectangular(extension, m);
-            hand(row, number, &fields)
-        }
-        LastingMessage::Rotation(m) => {
-            let fields = rotation(extension, m);
-            hand(row, number, &fields)
-        }
-        LastingMessage::RegionWise => hand_regions(row, number, extension, RegionWise::zero()),
+        LastingMessage::FramePacking(m) => hand(row, outcome, extension, m),
+        LastingMessage::Orientation(m) => hand(row, outcome, extension, m),
+        LastingMessage::Equirectangular(m) => hand(row, outcome, extension, m),
+        LastingMessage::Rotation(m) => hand(row, outcome, extension, m),
+        LastingMessage::RegionWise => hand(row, outcome, extension, RegionWise::zero()),
     }
 }
 
-pub(crate) fn passing(row: &mut [u64], number: u32, extension: u32, message: PassingMessage) -> u32
-    ensures { left result row.new ≡ handed_over number (extension ∷ passing_fields nothing message) row.old }
+pub(crate) fn passing(
+    row: &mut [u64],
+    outcome: Outcome,
+    extension: u32,
+    message: PassingMessage,
+) -> Outcome
+    ensures { left (outcome_number result) row.new ≡ wrote_by outcome (extension ∷ passing_fields nothing message) row.old }
 {
     match message {
-        PassingMessage::Alpha(m) => {
-            let fields = alpha(extension, m);
-            hand(row, number, &fields)
-        }
-        PassingMessage::Depth => {
-            let fields = depth(extension, Depth::zero());
-            hand(row, number, &fields)
-        }
-        PassingMessage::Registered(m) => {
-            let fields = registered(extension, m);
-            hand(row, number, &fields)
-        }
-        PassingMessage::Unregistered => {
-            let fields = unregistered(extension, Unregistered::zero());
-            hand(row, number, &fields)
-        }
+        PassingMessage::Alpha(m) => hand(row, outcome, extension, m),
+        PassingMessage::Depth => hand(row, outcome, extension, Depth::zero()),
+        PassingMessage::Registered(m) => hand(row, outcome, extension, m),
+        PassingMessage::Unregistered => hand(row, outcome, extension, Unregistered::zero()),
     }
 }

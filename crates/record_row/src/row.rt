@@ -1,55 +1,57 @@
-// What is written into a row: all of a record's fields, and narrower numbers at `at` and after it (the identifier of kind 5, the list of kind 177).
-ghost use Rattle.std.specs.Prelude.{◌≡◌, ◌+◌, ◌≤◌, length};
+// What has a row: its fields as numbers, one after another, which stand in a row after the extension count.
+ghost use Rattle.std.specs.Prelude.{◌≡◌, ◌+◌, ◌≤◌, ◌<◌, ℕ, List, ◌∷◌, length};
 ghost use Rattle.std.proofs.lemmas.List.Edits.{sets};
-ghost use Rattle.kind_depth.specs.Depth.{most};
+ghost use Rattle.answers.specs.Answer.{outcome_number};
 ghost use Rattle.lent.specs.Lent.{left};
-ghost use Rattle.record_row.specs.Handing.{handed_over};
+ghost use Rattle.record_row.specs.Handing.{wrote_by};
 
+use answers::Outcome;
 use bits::refusal::Refusal;
-use kind_depth::model::MOST;
-use lent::put;
 
-// The room is judged first, and then all fields are written or none: the number is then 10.
-pub(crate) fn hand(row: &mut [u64], number: u32, fields: &[u64]) -> u32
-    ensures { left result row.new ≡ handed_over number fields.now row.old }
+pub trait Row: Copy {
+    ghost fields: { Self → List ℕ };
+
+    // How many there are.
+    fn count(self) -> usize
+        ensures { result ≡ length (fields self) };
+
+    // Writes them at `at` and after it.
+    fn put(self, row: &mut [u64], at: usize)
+        requires { at + length (fields self) ≤ length row.old }
+        ensures { row.new ≡ sets row.old at (fields self) };
+}
+
+// The extension count and the fields, over the front of a row that has room for them.
+fn fill<R: Row>(row: &mut [u64], extension: u32, x: R)
+    requires { length (R.fields x) < length row.old }
+    ensures { row.new ≡ sets row.old 0 (extension ∷ R.fields x) }
 {
-    if row.len() < fields.len() {
-        return Refusal::rows().number();
+    row[0] = u64::from(extension);
+    x.put(row, 1);
+}
+
+// A row that has room for them and no more.
+#[tactic(auto, using(crate::proofs::RowLaws::filled))]
+pub(crate) fn filled<R: Row, const N: usize>(extension: u32, x: R) -> [u64; N]
+    requires { length (R.fields x) + 1 ≡ N }
+    ensures { result ≡ extension ∷ R.fields x }
+{
+    let mut row = [0u64; N];
+    fill(&mut row, extension, x);
+    row
+}
+
+// What the call comes to. The room is judged first, and then all fields are written or none; of what is refused none is.
+#[tactic(auto, using(crate::proofs::HandingLaws::handing))]
+pub(crate) fn hand<R: Row>(row: &mut [u64], outcome: Outcome, extension: u32, x: R) -> Outcome
+    ensures { left (outcome_number result) row.new ≡ wrote_by outcome (extension ∷ R.fields x) row.old }
+{
+    if let Outcome::Refused(_) = outcome {
+        return outcome;
     }
-    put(row, 0, fields);
-    number
-}
-
-pub(crate) fn put_identifier(row: &mut [u64], at: usize, from: [u8; 16])
-    requires { at + 16 ≤ length row.old }
-    ensures { row.new ≡ sets row.old at from }
-{
-    let mut j = 0;
-    while j < 16 {
-        row[at + j] = byte(from[j]);
-        j += 1;
+    if row.len() <= x.count() {
+        return Outcome::Refused(Refusal::rows());
     }
-}
-
-pub(crate) fn put_model(row: &mut [u64], at: usize, from: [u16; MOST])
-    requires { at + most ≤ length row.old }
-    ensures { row.new ≡ sets row.old at from }
-{
-    let mut j = 0;
-    while j < MOST {
-        row[at + j] = word(from[j]);
-        j += 1;
-    }
-}
-
-fn byte(x: u8) -> u64
-    ensures { result ≡ x }
-{
-    x as u64
-}
-
-fn word(x: u16) -> u64
-    ensures { result ≡ x }
-{
-    x as u64
+    fill(row, extension, x);
+    outcome
 }

@@ -10,7 +10,7 @@ use Rattle.format.specs.Format.{zeros}
 use Rattle.kind_region_wise.specs.RegionWise.{most, region_table}
 use Rattle.kind_region_wise.specs.declared.RegionWise.{RegionWise}
 use Rattle.region_table.specs.Rows.{rows_of, row_count, table_of, refuses}
-use Rattle.region_table.specs.declared.rows.Tabled.TheVariants.{Rows}
+use Rattle.std.specs.Prelude.{Ok}
 use Rattle.held.specs.Lasting.{orientation, equirectangular, rotation}
 use Rattle.held.specs.Held.{nothing, none_of}
 use Rattle.held.specs.declared.Held.{Held}
@@ -67,12 +67,12 @@ with45 on type matching =
     }
 
 -- type 3: the second row is to the right by half of 100 and half of 31; quincunx is not looked at
-beside : table_of_held (with45 1 3 1) 18 ≡ record { answer = Rows 2; rows = 1 ∷ 2 ∷ 3 ∷ 4 ∷ 5 ∷ 6 ∷ 7 ∷ 8 ∷ 9 ∷ 51 ∷ 2 ∷ 3 ∷ 4 ∷ 20 ∷ 6 ∷ 7 ∷ 8 ∷ 9 ∷ [] }
+beside : table_of_held (with45 1 3 1) 18 ≡ record { answer = Ok 2; rows = 1 ∷ 2 ∷ 3 ∷ 4 ∷ 5 ∷ 6 ∷ 7 ∷ 8 ∷ 9 ∷ 51 ∷ 2 ∷ 3 ∷ 4 ∷ 20 ∷ 6 ∷ 7 ∷ 8 ∷ 9 ∷ [] }
 unfolding table_of_held split_of table_of rows_of row_count
 beside = refl
 
 -- type 4: lower by half of 50 and half of 7
-below : table_of_held (with45 1 4 1) 18 ≡ record { answer = Rows 2; rows = 1 ∷ 2 ∷ 3 ∷ 4 ∷ 5 ∷ 6 ∷ 7 ∷ 8 ∷ 9 ∷ 1 ∷ 27 ∷ 3 ∷ 4 ∷ 5 ∷ 9 ∷ 7 ∷ 8 ∷ 9 ∷ [] }
+below : table_of_held (with45 1 4 1) 18 ≡ record { answer = Ok 2; rows = 1 ∷ 2 ∷ 3 ∷ 4 ∷ 5 ∷ 6 ∷ 7 ∷ 8 ∷ 9 ∷ 1 ∷ 27 ∷ 3 ∷ 4 ∷ 5 ∷ 9 ∷ 7 ∷ 8 ∷ 9 ∷ [] }
 unfolding table_of_held split_of table_of rows_of row_count
 below = refl
 
@@ -85,7 +85,7 @@ no-45 : table_of_held (with45 0 3 1) 18 ≡ refuses by_table
 unfolding table_of_held split_of
 no-45 = refl
 
-unflagged : table_of_held (with45 0 5 0) 9 ≡ record { answer = Rows 1; rows = 1 ∷ 2 ∷ 3 ∷ 4 ∷ 5 ∷ 6 ∷ 7 ∷ 8 ∷ 9 ∷ [] }
+unflagged : table_of_held (with45 0 5 0) 9 ≡ record { answer = Ok 1; rows = 1 ∷ 2 ∷ 3 ∷ 4 ∷ 5 ∷ 6 ∷ 7 ∷ 8 ∷ 9 ∷ [] }
 unfolding table_of_held split_of table_of rows_of row_count
 unflagged = refl
 

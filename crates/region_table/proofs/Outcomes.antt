@@ -12,7 +12,7 @@ use Rattle.bits.proofs.BitLaws.{below as below_or_not}
 use Rattle.kind_region_wise.specs.RegionWise.{most}
 use Rattle.kind_region_wise.specs.declared.RegionWise.{RegionWise}
 use Rattle.region_table.specs.declared.rows.Split.{Split}
-use Rattle.region_table.specs.declared.rows.Tabled.TheVariants.{Rows}
+use Rattle.std.specs.Prelude.{Ok}
 use Rattle.region_table.specs.Rows.{Countable, Uncountable, Table, rows_of, row_count, refuses, tabled_number, tabled_rows, table_of, wrote}
 use Rattle.region_table.specs.RowCases.{RegionWiseCase, none, few, full}
 use Rattle.region_table.proofs.CountLaws.{no_table, few-lent, enough-lent, rows_long}
@@ -91,7 +91,7 @@ refused-stays p split lent q = go (region-wise-cases p split (length lent))
     go (full k h e) = absurd (q (number_of e))
 
 -- n rows stand over the front, and the numbers past them stay
-pub rows-stand : (p : RegionWise) (split : Split) (lent : List ℕ) (n : ℕ) → length p.regions ≡ most → (table_of p split (length lent)).answer ≡ Rows n
+pub rows-stand : (p : RegionWise) (split : Split) (lent : List ℕ) (n : ℕ) → length p.regions ≡ most → (table_of p split (length lent)).answer ≡ Ok n
     → (take (9 * n) (wrote (table_of p split (length lent)) lent).lent ≡ rows_of p split)
     × (drop (9 * n) (wrote (table_of p split (length lent)) lent).lent ≡ drop (9 * n) lent)
 rows-stand p split lent n m q = go (region-wise-cases p split (length lent))

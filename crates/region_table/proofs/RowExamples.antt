@@ -11,7 +11,7 @@ use Rattle.kind_region_wise.specs.RegionWise.{most, region_table}
 use Rattle.kind_region_wise.specs.declared.region.Region.{Region}
 use Rattle.kind_region_wise.specs.declared.RegionWise.{RegionWise}
 use Rattle.region_table.specs.declared.rows.Split.TheVariants.{Whole, Beside, Below}
-use Rattle.region_table.specs.declared.rows.Tabled.TheVariants.{Rows, Refused}
+use Rattle.std.specs.Prelude.{Ok, Err}
 use Rattle.region_table.specs.Rows.{rows_of, row_count, table_of, refuses, wrote}
 use Rattle.lent.specs.Lent.{left}
 
@@ -55,13 +55,13 @@ abbrev marks : List ℕ
 marks = replicate 20 99
 
 -- one region, no second half: nine numbers are written, and the eleven past them stay
-once : wrote (table_of (packing 1 100 50 (told ∷ [])) Whole 20) marks ≡ left (Rows 1) (10 ∷ 20 ∷ 30 ∷ 40 ∷ 1 ∷ 2 ∷ 3 ∷ 4 ∷ 5 ∷ replicate 11 99)
+once : wrote (table_of (packing 1 100 50 (told ∷ [])) Whole 20) marks ≡ left (Ok 1) (10 ∷ 20 ∷ 30 ∷ 40 ∷ 1 ∷ 2 ∷ 3 ∷ 4 ∷ 5 ∷ replicate 11 99)
 unfolding table_of rows_of row_count
 once = refl
 
 -- the second row is lower by half of 51 and half of 7
 under : wrote (table_of (packing 1 100 51 (told ∷ [])) Below 20) marks
-    ≡ left (Rows 2) (10 ∷ 20 ∷ 30 ∷ 40 ∷ 1 ∷ 2 ∷ 3 ∷ 4 ∷ 5 ∷ 10 ∷ 45 ∷ 30 ∷ 40 ∷ 1 ∷ 5 ∷ 3 ∷ 4 ∷ 5 ∷ 99 ∷ 99 ∷ [])
+    ≡ left (Ok 2) (10 ∷ 20 ∷ 30 ∷ 40 ∷ 1 ∷ 2 ∷ 3 ∷ 4 ∷ 5 ∷ 10 ∷ 45 ∷ 30 ∷ 40 ∷ 1 ∷ 5 ∷ 3 ∷ 4 ∷ 5 ∷ 99 ∷ 99 ∷ [])
 unfolding table_of rows_of row_count
 under = refl
 
@@ -76,7 +76,7 @@ unfolding rows_of
 wide = refl
 
 -- two rows are 18 numbers: 17 are too few, and none is written
-short : wrote (table_of (packing 1 100 50 (told ∷ [])) Beside 17) (replicate 17 99) ≡ left (Refused by_rows) (replicate 17 99)
+short : wrote (table_of (packing 1 100 50 (told ∷ [])) Beside 17) (replicate 17 99) ≡ left (Err by_rows) (replicate 17 99)
 unfolding table_of rows_of row_count
 short = refl
 

@@ -24,11 +24,11 @@ use Rattle.slots.specs.Slots.{Eight, slot_at, is_open, closed_slot, lifted, Shut
 use Rattle.held.specs.declared.Held.{Held}
 use Rattle.slots.specs.declared.Slot.{Slot}
 use Rattle.slots.specs.declared.Slots.{Slots}
+use Rattle.slots.proofs.Entries.{eight}
 use Rattle.slots.proofs.Laws.{apart, where-open, where-shut, either, closed-shut, lifted-answer, lifted-same, shut-8}
 use Rattle.region_table.specs.Table.{split_of, table_by, table_of_held, tabling, table_in}
 use Rattle.region_table.specs.Cases.{region_wise_of, type_of, Splits, whole, beside, below, Makes, NoTable, none, uncounted, unpacked, other, size_of, TableCase, shut, missing, few, full}
-use Rattle.region_table.specs.declared.Way.{Way}
-use Rattle.region_table.specs.declared.Way.TheVariants.{By, Missing}
+use Rattle.std.specs.Prelude.{Option, Some, None}
 
 -- ---- what is held: there is a table of it or there is none
 
@@ -39,21 +39,21 @@ module _ (h : Held) where
   abbrev type : ℕ
   type = type_of h
 
-  by-split : (split : Split) → Splits h split → split_of packing.rwp_constituent_picture_matching_flag h.frame_packing ≡ By split
+  by-split : (split : Split) → Splits h split → split_of packing.rwp_constituent_picture_matching_flag h.frame_packing ≡ Some split
   unfolding split_of
   by-split split (whole m) = simp (eq-eqb _ _ m)
   by-split split (beside m f t) = simp (ne_eqb _ _ m, eq-eqb _ _ f, t)
   by-split split (below m f t) = simp (ne_eqb _ _ m, eq-eqb _ _ f, t)
 
-  unpacked-missing : packing.rwp_constituent_picture_matching_flag ≢ 0 → h.frame_packing.on ≢ 1 → split_of packing.rwp_constituent_picture_matching_flag h.frame_packing ≡ Missing
+  unpacked-missing : packing.rwp_constituent_picture_matching_flag ≢ 0 → h.frame_packing.on ≢ 1 → split_of packing.rwp_constituent_picture_matching_flag h.frame_packing ≡ None
   unfolding split_of
   unpacked-missing m f = simp (ne_eqb _ _ m, ne_eqb _ _ f)
 
-  other-missing : packing.rwp_constituent_picture_matching_flag ≢ 0 → type ≢ 3 → type ≢ 4 → split_of packing.rwp_constituent_picture_matching_flag h.frame_packing ≡ Missing
+  other-missing : packing.rwp_constituent_picture_matching_flag ≢ 0 → type ≢ 3 → type ≢ 4 → split_of packing.rwp_constituent_picture_matching_flag h.frame_packing ≡ None
   unfolding split_of
   other-missing m t u = go (eqb h.frame_packing.on 1) refl
     where
-      go : (b : Bool) → eqb h.frame_packing.on 1 ≡ b → split_of packing.rwp_constituent_picture_matching_flag h.frame_packing ≡ Missing
+      go : (b : Bool) → eqb h.frame_packing.on 1 ≡ b → split_of packing.rwp_constituent_picture_matching_flag h.frame_packing ≡ None
       go true f = simp (ne_eqb _ _ m, f, ne_eqb _ _ t, ne_eqb _ _ u)
       go false f = simp (ne_eqb _ _ m, f)
 
@@ -98,7 +98,7 @@ module _ (h : Held) where
   unfolding table_of_held
   made split m room = simp (eq-eqb _ _ m.held, by-split split m.splits)
 
-  at-way : (w : Way) → split_of packing.rwp_constituent_picture_matching_flag h.frame_packing ≡ w → (room : ℕ) → table_by packing w room ≡ refuses by_table → table_of_held h room ≡ refuses by_table
+  at-way : (w : Option Split) → split_of packing.rwp_constituent_picture_matching_flag h.frame_packing ≡ w → (room : ℕ) → table_by packing w room ≡ refuses by_table → table_of_held h room ≡ refuses by_table
   unfolding table_of_held
   at-way w e room q = go (eqb h.region_wise.on 1) refl
     where
@@ -111,15 +111,15 @@ module _ (h : Held) where
   unmade (none o) room = simp (ne_eqb _ _ o)
   unmade (uncounted u) room = at-way (split_of packing.rwp_constituent_picture_matching_flag h.frame_packing) refl room (go (split_of packing.rwp_constituent_picture_matching_flag h.frame_packing))
     where
-      go : (w : Way) → table_by packing w room ≡ refuses by_table
-      go (By split) = no_table packing split room u
-      go Missing = refl
-  unmade (unpacked m f) room = at-way Missing (unpacked-missing m f) room refl
-  unmade (other m t u) room = at-way Missing (other-missing m t u) room refl
+      go : (w : Option Split) → table_by packing w room ≡ refuses by_table
+      go (Some split) = no_table packing split room u
+      go None = refl
+  unmade (unpacked m f) room = at-way None (unpacked-missing m f) room refl
+  unmade (other m t u) room = at-way None (other-missing m t u) room refl
 
   -- ---- they exclude each other
 
-  by-or-missing : {w : Way} {split : Split} → w ≡ By split → w ≡ Missing → ⊥
+  by-or-missing : {w : Option Split} {split : Split} → w ≡ Some split → w ≡ None → ⊥
   by-or-missing p q = let z : ◌≡◌ {A = ℕ} 0 1 = cc in omega arith
 
   not-both : NoTable h → (split : Split) → Makes h split → ⊥
@@ -265,3 +265,6 @@ when-8 room = shut-8 (λ (t : Table). tabled_number t.answer) (refuses by_slot) 
 -- the slots stay
 pub table_stays : (s : Slots) (n room : ℕ) → (lifted (tabling room) (refuses by_slot) s n).0 ≡ s
 table_stays s n room = lifted-same (tabling room) (refuses by_slot) s n (either (slot_at s n) _ _ (λ w. w.0 ≡ slot_at s n) (λ o. refl) (λ o. refl))
+
+-- what the goal of `table` wants
+pub ruleset found = (on-slot, eight)

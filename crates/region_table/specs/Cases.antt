@@ -1,11 +1,10 @@
 -- When a table can be made of what a slot holds, and the four cases of a table call.
-use Rattle.std.specs.Prelude.{ℕ, ◌*◌, ◌≤◌, ◌<◌, ◌≡◌, ◌≢◌, ◌⊎◌, true, false}
+use Rattle.std.specs.Prelude.{ℕ, Ok, ◌*◌, ◌≤◌, ◌<◌, ◌≡◌, ◌≢◌, ◌⊎◌, true, false}
 use Rattle.bits.specs.Refusals.{by_slot, by_table, by_rows}
 use Rattle.kind_region_wise.specs.declared.RegionWise.{RegionWise}
 use Rattle.region_table.specs.Rows.{Countable, Uncountable, Table, refuses, rows_of, row_count}
 use Rattle.region_table.specs.declared.rows.Split.{Split}
 use Rattle.region_table.specs.declared.rows.Split.TheVariants.{Whole, Beside, Below}
-use Rattle.region_table.specs.declared.rows.Tabled.TheVariants.{Rows}
 use Rattle.held.specs.declared.Held.{Held}
 use Rattle.slots.specs.Slots.{is_open}
 use Rattle.slots.specs.declared.Slot.{Slot}
@@ -54,4 +53,4 @@ pub data TableCase (x : Slot) (room : ℕ) (t : Table) : Type 0 where
   few : is_open x ≡ true → (split : Split) → Makes x.held split → room < size_of x.held split
       → t ≡ refuses by_rows → TableCase x room t
   full : is_open x ≡ true → (split : Split) → Makes x.held split → size_of x.held split ≤ room
-      → t ≡ record { answer = Rows (row_count (region_wise_of x.held) split); rows = rows_of (region_wise_of x.held) split } → TableCase x room t
+      → t ≡ record { answer = Ok (row_count (region_wise_of x.held) split); rows = rows_of (region_wise_of x.held) split } → TableCase x room t

@@ -1,5 +1,5 @@
 -- The region table: RULES 12, with the offsets of H.274 8.15.5.2.
-use Rattle.std.specs.Prelude.{ℕ, ◌+◌, ◌*◌, ◌/◌, ◌≤◌, ◌<◌, ◌≡◌, ◌⊎◌, List, [], ◌∷◌, ◌++◌, leb, take, if◌then◌else◌}
+use Rattle.std.specs.Prelude.{ℕ, ◌+◌, ◌*◌, ◌/◌, ◌≤◌, ◌<◌, ◌≡◌, ◌⊎◌, List, [], ◌∷◌, ◌++◌, Option, Some, None, Result, Ok, Err, leb, take, if◌then◌else◌}
 use Rattle.bits.specs.Refusals.{refusal_number, by_table, by_rows}
 use Rattle.bits.specs.declared.refusal.Refusal.{Refusal}
 use Rattle.lent.specs.Lent.{Left, left, over}
@@ -9,8 +9,6 @@ use Rattle.kind_region_wise.specs.declared.RegionWise.{RegionWise}
 use Rattle.region_table.specs.declared.rows.Shift.{Shift}
 use Rattle.region_table.specs.declared.rows.Split.{Split}
 use Rattle.region_table.specs.declared.rows.Split.TheVariants.{Whole, Beside, Below}
-use Rattle.region_table.specs.declared.rows.Tabled.{Tabled}
-use Rattle.region_table.specs.declared.rows.Tabled.TheVariants.{Rows, Refused}
 
 -- ---- the rows
 
@@ -50,6 +48,22 @@ below p =
 abbrev pub twice_of : Shift → List Region → List ℕ
 twice_of by rs = rows_by no_shift rs ++ rows_by by rs
 
+-- the same, or with no shift only one row a region
+abbrev pub rows_with : Option Shift → List Region → List ℕ
+rows_with None rs = rows_by no_shift rs
+rows_with (Some by) rs = twice_of by rs
+
+-- how many they are, of so many regions
+abbrev pub count_with : Option Shift → ℕ → ℕ
+count_with None n = n
+count_with (Some by) n = 2 * n
+
+-- by how much the second half is shifted, if there is one
+abbrev pub second_of : RegionWise → Split → Option Shift
+second_of p Whole = None
+second_of p Beside = Some (beside p)
+second_of p Below = Some (below p)
+
 -- the record's regions
 abbrev pub regions_of : RegionWise → List Region
 regions_of p = take p.rwp_num_packed_regions p.regions
@@ -77,26 +91,26 @@ Uncountable p = (p.rwp_num_packed_regions ≡ 0) ⊎ (most < p.rwp_num_packed_re
 -- ---- the call
 
 -- the number that a caller gets: 0 for rows
-abbrev pub tabled_number : Tabled → ℕ
-tabled_number (Rows n) = 0
-tabled_number (Refused why) = refusal_number why
+abbrev pub tabled_number : Result ℕ Refusal → ℕ
+tabled_number (Ok n) = 0
+tabled_number (Err why) = refusal_number why
 
 -- how many rows were written
-abbrev pub tabled_rows : Tabled → ℕ
-tabled_rows (Rows n) = n
-tabled_rows (Refused why) = 0
+abbrev pub tabled_rows : Result ℕ Refusal → ℕ
+tabled_rows (Ok n) = n
+tabled_rows (Err why) = 0
 
--- what a call answers and what it writes, which is nothing where it refuses
+-- what a call answers, which is how many rows it writes or why it writes none, and these rows
 pub record Table : Type 0 where
-  pub answer : Tabled
+  pub answer : Result ℕ Refusal
   pub rows : List ℕ
 
 abbrev pub refuses : Refusal → Table
-refuses why = record { answer = Refused why; rows = [] }
+refuses why = record { answer = Err why; rows = [] }
 
 -- n rows where 9 × n numbers are lent, else refusal 10
 abbrev pub fitted : ℕ → List ℕ → ℕ → Table
-fitted n rows room = if leb (9 * n) room then record { answer = Rows n; rows = rows } else refuses by_rows
+fitted n rows room = if leb (9 * n) room then record { answer = Ok n; rows = rows } else refuses by_rows
 
 -- refusal 9 where the record has no region, or more than it can hold; `room` is how many numbers are lent
 unfoldable pub table_of : RegionWise → Split → ℕ → Table
@@ -106,5 +120,5 @@ table_of p split room =
     else refuses by_table
 
 -- the rows stand at the front of what was lent
-abbrev pub wrote : Table → List ℕ → Left Tabled
+abbrev pub wrote : Table → List ℕ → Left (Result ℕ Refusal)
 wrote t lent = left t.answer (over t.rows lent)

@@ -1,7 +1,8 @@
 -- The words of a text, as the code finds them, and what it means that two texts are the same.
 -- Assumes nothing.
-use Rattle.std.proofs.Common.{◌≡◌, ℕ, ◌+◌, ◌-◌, ◌<◌, ◌≤◌, Bool, true, false, eqb, List, [], ◌∷◌, length, take, drop, sym, refl, ap, ◌∙◌, arith, length-drop, length-take, take_all, drop-drop, eq-eqb, eqb-true}
+use Rattle.std.proofs.Common.{◌≡◌, ℕ, ◌+◌, ◌-◌, ◌≤◌, Bool, true, false, eqb, List, [], ◌∷◌, length, take, drop, sym, refl, ap, ◌∙◌, arith, length-drop, take_all, drop-drop, eq-eqb, eqb-true}
 use lib.Seq.{take-length}
+use lib.Pointwise.{pointwise, bytes_decides}
 use Rattle.std.specs.Prelude.{if◌then◌else◌}
 use Rattle.words.specs.Place.{index_of, slice, run, led}
 use Rattle.script.specs.Words.{alike, first_of, rest_of}
@@ -14,11 +15,9 @@ found_from s b at e p = rw (take-length s) at p
 found : (s : List ℕ) (b e : ℕ) → e ≡ 0 + index_of b (slice 0 (length s) s) → e ≡ index_of b s
 found s b e p = omega (arith, found_from s b 0 e p)
 
-pub first-of : (s : List ℕ) (e : ℕ) → e ≡ 0 + index_of 32 (slice 0 (length s) s) → take (e - 0) s ≡ first_of s
+pub first-of : (s : List ℕ) (e : ℕ) → e ≡ 0 + index_of 32 (slice 0 (length s) s) → take e s ≡ first_of s
 unfolding first_of
-first-of s e p =
-    let n : e - 0 ≡ index_of 32 s = omega (arith, found s 32 e p) in
-    ap (λ (k : ℕ). take k s) n
+first-of s e p = ap (λ (k : ℕ). take k s) (found s 32 e p)
 
 pub rest-of : (s : List ℕ) (e f : ℕ) → e ≡ 0 + index_of 32 (slice 0 (length s) s) → f ≡ e + run 32 (drop e s) → take (length s - f) (drop f s) ≡ rest_of s
 unfolding rest_of
@@ -55,10 +54,12 @@ apart true a b p differ = differ (alike_same a b p)
 apart false a b p differ = refl
 
 -- what a test for the same text answers
-pub tested : (r : Bool) (a b : List ℕ) → (r ≡ true → a ≡ b) × (a ≡ b → r ≡ true) → r ≡ alike a b
+tested : (r : Bool) (a b : List ℕ) → (r ≡ true → a ≡ b) × (a ≡ b → r ≡ true) → r ≡ alike a b
 tested true a b p = rw (p.0 refl) (sym (alike_refl b))
 tested false a b p = apart (alike a b) a b refl p.1
 
--- a text that is shorter than b does not start with it
-pub too_short : (s b : List ℕ) (n : ℕ) → n ≡ length b → length s < n → alike (take n s) b ≡ false
-too_short s b n p h = sym (tested false (take n s) b ((λ e. cc), (λ e. absurd (omega (arith, ap length e, length-take n s)))))
+pub by_pairs : (a b : List ℕ) → pointwise eqb a b ≡ alike a b
+by_pairs a b = tested _ a b (bytes_decides a b)
+
+-- what the goals on texts want
+pub ruleset texts = (first-of, rest-of, by_pairs)

@@ -1,66 +1,65 @@
 -- The call that a line spells: its first word names it, and the help text says what follows.
-use Rattle.std.specs.Prelude.{ℕ, List, [], ◌∷◌, take, drop, ◌==◌, nat_lt, if◌then◌else◌}
+use Rattle.std.specs.Prelude.{ℕ, List, [], ◌∷◌, take, drop, ◌==◌, nat_lt, Option, Some, None, Result, Ok, Err, if◌then◌else◌}
+use Rattle.std.specs.Result.{result_ok}
 use Rattle.lent.specs.Lent.{Left, left}
 use Rattle.words.specs.Place.{content_of}
-use Rattle.words.specs.Number.{number_of}
-use Rattle.words.specs.declared.number.Spelled.{Spelled}
-use Rattle.script.specs.Words.{alike, first_of, rest_of, valued, last_of}
-use Rattle.script.specs.Names.{open-name, close-name, sequence-name, picture-name, table-name, feed-name, read_name, explain-name, help-name}
-use Rattle.script.specs.Payload.{payload_of}
+use Rattle.script.specs.Words.{alike, first_of, rest_of, onward, argument_of, last_of}
+use Rattle.script.specs.Names.{name_of}
+use Rattle.script.specs.Payload.{lent_on, payload_of}
 use Rattle.script.specs.declared.call.Call.{Call}
-use Rattle.script.specs.declared.call.Call.TheVariants.{Open, Close, Sequence, Picture, Table, Feed, Read, Explain, Help, Nothing}
+use Rattle.script.specs.declared.call.Call.TheVariants.{Open, Close, Sequence, Picture, Table, Feed, Read, Explain, Help}
 use Rattle.script.specs.declared.call.Payload.{Payload}
-use Rattle.script.specs.declared.payload.Given.{Given}
-use Rattle.script.specs.declared.payload.Given.TheVariants as given
+use Rattle.script.specs.declared.name.Name.{Name}
+use Rattle.script.specs.declared.name.Name.TheVariants as name
+use Rattle.script.specs.declared.wrong.Why.{Why}
+use Rattle.script.specs.declared.wrong.Why.TheVariants as why
 
--- a call with a number, where there is one
-abbrev pub numbered : (ℕ → Call) → Spelled → Call
-numbered f r = valued r f Nothing
+-- a call with what is given, where there is that
+abbrev pub calling : {A : Type 0} → (A → Call) → Result A Why → Result Call Why
+calling f r = onward r (λ a. Ok (f a))
 
--- a call with a payload, where there is one
-unfoldable pub paid : (Payload → Call) → Given → Call
-paid f (given.Payload p) = f p
-paid f given.Wrong = Nothing
+-- SLOT
+abbrev pub slot_call : (ℕ → Call) → List ℕ → Result Call Why
+slot_call f s = calling f (last_of why.NoSlot s)
 
-abbrev pub with_payload : (Payload → Call) → Left Given → Left Call
-with_payload f o = left (paid f o.answer) o.lent
+abbrev pub with_payload : (Payload → Call) → Left (Result Payload Why) → Left (Result Call Why)
+with_payload f o = left (calling f o.answer) o.lent
 
 -- SLOT NUMBERS
-abbrev pub tabled : List ℕ → ℕ → Call
-tabled s slot = numbered (Table slot) (last_of s)
+abbrev pub tabled : List ℕ → ℕ → Result Call Why
+tabled s slot = calling (Table slot) (last_of why.NoCount s)
 
-unfoldable pub table_of : List ℕ → Call
-table_of s = numbered (tabled (rest_of s)) (number_of (first_of s))
+unfoldable pub table_of : List ℕ → Result Call Why
+table_of s = onward (argument_of why.NoSlot s) (tabled (rest_of s))
 
 -- SLOT KIND [size=N] BYTES
-abbrev pub fed : List ℕ → List ℕ → ℕ → Left Call
+abbrev pub fed : List ℕ → List ℕ → ℕ → Left (Result Call Why)
 fed s lent slot = with_payload (Feed slot) (payload_of s lent)
 
-unfoldable pub feed_of : List ℕ → List ℕ → Left Call
-feed_of s lent = valued (number_of (first_of s)) (fed (rest_of s) lent) (left Nothing lent)
+unfoldable pub feed_of : List ℕ → List ℕ → Left (Result Call Why)
+feed_of s lent = lent_on (argument_of why.NoSlot s) (fed (rest_of s) lent) lent
 
 -- nothing follows
-unfoldable pub help_of : List ℕ → Call
-help_of [] = Help
-help_of (c ∷ s) = Nothing
+unfoldable pub help_of : List ℕ → Result Call Why
+help_of [] = Ok Help
+help_of (c ∷ s) = Err why.TooMuch
 
 -- what the call of this name comes to, with what follows the name
-unfoldable pub named : List ℕ → List ℕ → List ℕ → Left Call
-named word s lent =
-    if alike open-name word then left (numbered Open (last_of s)) lent
-    else if alike close-name word then left (numbered Close (last_of s)) lent
-    else if alike sequence-name word then left (numbered Sequence (last_of s)) lent
-    else if alike picture-name word then left (numbered Picture (last_of s)) lent
-    else if alike table-name word then left (table_of s) lent
-    else if alike feed-name word then feed_of s lent
-    else if alike read_name word then with_payload Read (payload_of s lent)
-    else if alike explain-name word then with_payload Explain (payload_of s lent)
-    else if alike help-name word then left (help_of s) lent
-    else left Nothing lent
+abbrev pub named : Option Name → List ℕ → List ℕ → Left (Result Call Why)
+named (Some name.Open) s lent = left (slot_call Open s) lent
+named (Some name.Close) s lent = left (slot_call Close s) lent
+named (Some name.Sequence) s lent = left (slot_call Sequence s) lent
+named (Some name.Picture) s lent = left (slot_call Picture s) lent
+named (Some name.Table) s lent = left (table_of s) lent
+named (Some name.Feed) s lent = feed_of s lent
+named (Some name.Read) s lent = with_payload Read (payload_of s lent)
+named (Some name.Explain) s lent = with_payload Explain (payload_of s lent)
+named (Some name.Help) s lent = left (help_of s) lent
+named None s lent = left (Err why.NoCall) lent
 
 -- the call of a line without its comment and the spaces around it
-unfoldable pub spelled_of : List ℕ → List ℕ → Left Call
-spelled_of s lent = named (first_of s) (rest_of s) lent
+unfoldable pub spelled_of : List ℕ → List ℕ → Left (Result Call Why)
+spelled_of s lent = named (name_of (first_of s)) (rest_of s) lent
 
 -- a byte order mark: EF BB BF
 abbrev pub mark : List ℕ
@@ -74,14 +73,10 @@ unmarked_of number s = if number == 1 then (if alike (take 3 s) mark then drop 3
 unfoldable pub said_of : ℕ → ℕ → List ℕ → List ℕ
 said_of number n line = content_of (unmarked_of number (take n line))
 
+-- the call, where there is one
+abbrev pub some_call : Left (Result Call Why) → Left (Option Call)
+some_call o = left (result_ok o.answer) o.lent
+
 -- the call that it spells; a line of 32768 characters or more is too long
-unfoldable pub call_of : ℕ → ℕ → List ℕ → List ℕ → Left Call
-call_of number n line lent = if nat_lt n 32768 then spelled_of (said_of number n line) lent else left Nothing lent
-
--- ---- the calls by their places in the list of names
-
-unfoldable pub slot_call : ℕ → ℕ → Call
-slot_call place n = if place == 0 then Open n else if place == 1 then Close n else if place == 2 then Sequence n else Picture n
-
-unfoldable pub read_call : ℕ → Payload → Call
-read_call place p = if place == 6 then Read p else Explain p
+unfoldable pub call_of : ℕ → ℕ → List ℕ → List ℕ → Left (Option Call)
+call_of number n line lent = if nat_lt n 32768 then some_call (spelled_of (said_of number n line) lent) else left None lent

@@ -1,21 +1,9 @@
 -- The calls by name.
-use Rattle.std.specs.Prelude.{ℕ, suc, List, [], ◌∷◌, ◌==◌, if◌then◌else◌}
+use Rattle.std.specs.Prelude.{ℕ, List, [], ◌∷◌, Option}
+use Rattle.std.specs.List.{find}
 use Rattle.script.specs.Words.{alike}
-
--- one character more at the front of a list of words: it is of the first, where there is one
-unfoldable pub longer : ℕ → List (List ℕ) → List (List ℕ)
-longer c [] = []
-longer c (w ∷ more) = (c ∷ w) ∷ more
-
--- the words of a list, of which each has a bar after it
-unfoldable pub words_of : List ℕ → List (List ℕ)
-words_of [] = []
-words_of (c ∷ rest) = if c == 124 then [] ∷ words_of rest else longer c (words_of rest)
-
--- the place of a word among them; their count where it is none of them
-unfoldable pub place_in : List (List ℕ) → List ℕ → ℕ
-place_in [] w = 0
-place_in (x ∷ more) w = if alike x w then 0 else suc (place_in more w)
+use Rattle.script.specs.declared.name.Name.{Name}
+use Rattle.script.specs.declared.name.Name.TheVariants.{Open, Close, Sequence, Picture, Table, Feed, Read, Explain, Help}
 
 -- open
 abbrev pub open-name : List ℕ
@@ -53,6 +41,20 @@ explain-name = 101 ∷ 120 ∷ 112 ∷ 108 ∷ 97 ∷ 105 ∷ 110 ∷ []
 abbrev pub help-name : List ℕ
 help-name = 104 ∷ 101 ∷ 108 ∷ 112 ∷ []
 
-abbrev pub names : List (List ℕ)
-names =
-    open-name ∷ close-name ∷ sequence-name ∷ picture-name ∷ table-name ∷ feed-name ∷ read_name ∷ explain-name ∷ help-name ∷ []
+abbrev pub word_of : Name → List ℕ
+word_of Open = open-name
+word_of Close = close-name
+word_of Sequence = sequence-name
+word_of Picture = picture-name
+word_of Table = table-name
+word_of Feed = feed-name
+word_of Read = read_name
+word_of Explain = explain-name
+word_of Help = help-name
+
+abbrev pub names : List Name
+names = Open ∷ Close ∷ Sequence ∷ Picture ∷ Table ∷ Feed ∷ Read ∷ Explain ∷ Help ∷ []
+
+-- the call that a word names, if it is one
+unfoldable pub name_of : List ℕ → Option Name
+name_of w = find (λ n. alike (word_of n) w) names

@@ -13,8 +13,6 @@ pub enum Call {
     Read(Payload),
     Explain(Payload),
     Help,
-    // Nothing, or nothing that can be done, which has been said.
-    Nothing,
 }
 
 // Its kind, its stated size, and how many bytes there are.

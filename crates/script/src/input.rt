@@ -26,14 +26,12 @@ pub struct Input {
 }
 
 // Tabs, carriage returns, commas and colons count as spaces.
+#[tactic(auto, unfolding(crate::specs::Input::plain_byte))]
 fn plain(b: u8) -> u8
     ensures { result ≡ plain_byte b }
 {
     match b {
-        b'\t' => b' ',
-        b'\r' => b' ',
-        b',' => b' ',
-        b':' => b' ',
+        b'\t' | b'\r' | b',' | b':' => b' ',
         _ => b,
     }
 }
@@ -42,10 +40,7 @@ fn plain(b: u8) -> u8
 fn got(mut stdin: Stdin, chunk: &mut [u8; CHUNK]) -> usize
     ensures { result ≤ 4096 }
 {
-    match stdin.read(chunk) {
-        Ok(n) => n,
-        Err(_) => 0,
-    }
+    stdin.read(chunk).unwrap_or(0)
 }
 
 impl Input {
@@ -63,6 +58,7 @@ impl Input {
     }
 
     // After a whole line the next one begins.
+    #[tactic(auto, unfolding(crate::specs::Input::onward_of))]
     fn onward(mut self) -> Input
         ensures { result ≡ onward_of self }
     {
@@ -75,6 +71,7 @@ impl Input {
     }
 
     // The next chunk. A last line may have no end of line.
+    #[tactic(auto, unfolding(crate::specs::Input::filled_of))]
     fn filled(mut self, stdin: Stdin, chunk: &mut [u8; CHUNK]) -> Input
         ensures { (result ≡ filled_of self result.end) × (result.end ≤ 4096) }
     {
@@ -88,6 +85,8 @@ impl Input {
         self
     }
 
+    // One byte more of the line.
+    #[tactic(auto, unfolding(crate::specs::Input::with_byte))]
     fn with(mut self, b: u8, line: &mut [u8; LINE]) -> Input
         ensures { step result line.new ≡ with_byte self b line.old }
     {
@@ -109,30 +108,28 @@ impl Input {
     {
         let s = front(chunk, self.end);
         let mut r = self;
-        while r.at < s.len() {
-            let at = r.at;
+        for at in self.at..s.len() {
             r.at = at + 1;
             r = r.with(s[at], line);
             if r.whole {
-                return r;
+                break;
             }
         }
         r
     }
 
     // What is left of the line in the chunk; where no byte is left a chunk is read, of which only the outside knows how many bytes there are, and which.
+    #[tactic(auto, unfolding(crate::specs::Input::next_of, crate::specs::Input::further))]
     pub fn next(self, stdin: Stdin, chunk: &mut [u8; CHUNK], line: &mut [u8; LINE]) -> Input
         ensures line_after { step result line.new ≡ next_of self chunk.old line.old result.end }
         ensures chunk_unchanged { byte_left (onward_of self) ≡ true → chunk.new ≡ chunk.old }
         ensures end_bound { byte_left (onward_of self) ≡ false → result.end ≤ 4096 }
     {
         let r = self.onward();
-        let at = r.at;
-        if at < r.end {
-            if at < CHUNK {
-                return r.through(chunk, line);
-            }
+        if r.at < r.end && r.at < CHUNK {
+            r.through(chunk, line)
+        } else {
+            r.filled(stdin, chunk)
         }
-        r.filled(stdin, chunk)
     }
 }

@@ -1,63 +1,74 @@
-// The calls by name. Each has a place in the two lists below; what is no call has the place after them.
+// The calls by name.
 ghost use Rattle.std.specs.Prelude.{◌≡◌};
-ghost use Rattle.script.specs.Names.{words_of, place_in, names};
+ghost use Rattle.script.specs.Names.{word_of, name_of};
 
 use crate::argument::same;
-use print::{Out, piece};
-use words::place::find;
 
-pub const OPEN: u64 = 0;
+#[derive(Clone, Copy)]
+pub enum Name {
+    Open,
+    Close,
+    Sequence,
+    Picture,
+    Table,
+    Feed,
+    Read,
+    Explain,
+    Help,
+}
 
-pub const CLOSE: u64 = 1;
+impl Name {
+    const ALL: [Name; 9] = [
+        Name::Open,
+        Name::Close,
+        Name::Sequence,
+        Name::Picture,
+        Name::Table,
+        Name::Feed,
+        Name::Read,
+        Name::Explain,
+        Name::Help,
+    ];
 
-pub const SEQUENCE: u64 = 2;
-
-pub const PICTURE: u64 = 3;
-
-pub const TABLE: u64 = 4;
-
-pub const FEED: u64 = 5;
-
-pub const READ: u64 = 6;
-
-pub const EXPLAIN: u64 = 7;
-
-pub const HELP: u64 = 8;
-
-// The place of a word in a list, each with a bar after it; the list's count where it is none of them.
-fn among(list: &[u8], word: &[u8]) -> u64
-    ensures { result ≡ place_in (words_of list.now) word.now }
-{
-    let mut n: u64 = 0;
-    let mut at = 0;
-    let mut end = find(list, 0, b'|');
-    while end < list.len() {
-        if same(&list[at..end], word) {
-            return n;
+    fn word(self) -> &'static [u8]
+        ensures { result.now ≡ word_of self }
+    {
+        match self {
+            Name::Open => b"open",
+            Name::Close => b"close",
+            Name::Sequence => b"sequence",
+            Name::Picture => b"picture",
+            Name::Table => b"table",
+            Name::Feed => b"feed",
+            Name::Read => b"read",
+            Name::Explain => b"explain",
+            Name::Help => b"help",
         }
-        n += 1;
-        at = end + 1;
-        end = find(list, at, b'|');
     }
-    n
-}
 
-pub fn place(word: &[u8]) -> u64
-    ensures { result ≡ place_in names word.now }
-{
-    among(
-        b"open|close|sequence|picture|table|feed|read|explain|help|",
-        word,
-    )
-}
+    // The call that a word names.
+    #[tactic(auto, unfolding(crate::specs::Names::name_of))]
+    pub fn of(word: &[u8]) -> Option<Name>
+        ensures { result ≡ name_of word.now }
+    {
+        Name::ALL
+            .iter()
+            .copied()
+            .find(|name| same(name.word(), word))
+    }
 
-// How the call at a place is written.
-pub fn form(out: &mut Out, place: u64) {
-    piece(
-        out,
-        b"open SLOT|close SLOT|sequence SLOT|picture SLOT|table SLOT NUMBERS|feed SLOT KIND [size=N] BYTES|\
-        read KIND [size=N] BYTES|explain KIND [size=N] BYTES|help|\
-        open, close, sequence, picture, table, feed, read, explain or help",
-        place,
-    );
+    // How the call is written.
+    pub fn form(self) -> &'static str {
+        match self {
+            Name::Open => "open SLOT",
+            Name::Close => "close SLOT",
+            Name::Sequence => "sequence SLOT",
+            Name::Picture => "picture SLOT",
+            Name::Table => "table SLOT NUMBERS",
+            Name::Feed => "feed SLOT KIND [size=N] BYTES",
+            Name::Read => "read KIND [size=N] BYTES",
+            Name::Explain => "explain KIND [size=N] BYTES",
+            Name::Help => "help",
+        }
+    }
 }

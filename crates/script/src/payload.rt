@@ -1,88 +1,58 @@
 // The payload of a line: its kind, its stated size, and its bytes.
 ghost use Rattle.std.specs.Prelude.{◌≡◌};
-ghost use Rattle.words.specs.Hex.{spelling, into};
 ghost use Rattle.lent.specs.Lent.{left};
-ghost use Rattle.script.specs.Payload.{plain_of, stated_of, payload_of};
+ghost use Rattle.script.specs.Words.{told};
+ghost use Rattle.script.specs.Payload.{unspelled_of, plain_of, stated_of, payload_of};
 
-use crate::argument::{argument, rest, same};
+use crate::argument::{argument, rest};
 use crate::call::Payload;
-use crate::wrong;
-use crate::wrong::{At, wrong};
-use print::Out;
-use words::hex::{Hex, bytes};
-use words::number::Spelled;
+use crate::wrong::{Why, Wrong};
+use words::hex::{HexError, bytes};
 
-#[derive(Clone, Copy)]
-pub enum Given {
-    Payload(Payload),
-    // What is wrong has been said.
-    Wrong,
-}
-
-// How many bytes a text spells. What is wrong with them has been said.
-fn count(to: &mut Out, at: At, s: &[u8], out: &mut [u8]) -> Hex
-    ensures { left result out.new ≡ into out.old (spelling 0 0 s.now) }
+// What is wrong with a text that spells no bytes.
+fn unspelled(e: HexError, s: &[u8]) -> Wrong<'_>
+    ensures { result.why ≡ unspelled_of e }
 {
-    let r = bytes(s, out);
-    match r {
-        Hex::Bytes(_) => {}
-        Hex::Odd => wrong(to, at, b"", wrong::ODD),
-        Hex::Long => wrong(to, at, b"", wrong::LONG),
-        Hex::Foreign(i) => {
-            if i < s.len() {
-                wrong(to, at, &s[i..], wrong::NO_HEX);
-            }
-        }
+    match e {
+        HexError::Odd => Wrong::new(Why::Odd, b""),
+        HexError::Long => Wrong::new(Why::Long, b""),
+        HexError::Foreign(i) => Wrong::new(Why::NoHex, s.get(i..).unwrap_or(b"")),
     }
-    r
 }
 
 // Bytes alone: their count is the size.
-fn plain(to: &mut Out, at: At, kind: u64, s: &[u8], out: &mut [u8]) -> Given
-    ensures { left result out.new ≡ plain_of kind s.now out.old }
+#[tactic(auto, unfolding(crate::specs::Payload::plain_of))]
+fn plain<'a>(kind: u64, s: &'a [u8], out: &mut [u8]) -> Result<Payload, Wrong<'a>>
+    ensures { left (told result) out.new ≡ plain_of kind s.now out.old }
 {
-    let r = count(to, at, s, out);
-    let Hex::Bytes(n) = r else {
-        return Given::Wrong;
-    };
-    Given::Payload(Payload {
-        kind,
-        size: n as u64,
-        count: n,
-    })
+    match bytes(s, out) {
+        Ok(count) => Ok(Payload {
+            kind,
+            size: count as u64,
+            count,
+        }),
+        Err(e) => Err(unspelled(e, s)),
+    }
 }
 
 // The size, and then the bytes.
-fn stated(to: &mut Out, at: At, kind: u64, s: &[u8], out: &mut [u8]) -> Given
-    ensures { left result out.new ≡ stated_of kind s.now out.old }
+#[tactic(auto, unfolding(crate::specs::Payload::stated_of))]
+fn stated<'a>(kind: u64, s: &'a [u8], out: &mut [u8]) -> Result<Payload, Wrong<'a>>
+    ensures { left (told result) out.new ≡ stated_of kind s.now out.old }
 {
-    let size = argument(to, at, s, wrong::NO_SIZE);
-    let Spelled::Value(n) = size else {
-        return Given::Wrong;
-    };
-    let given = plain(to, at, kind, rest(s), out);
-    let Given::Payload(payload) = given else {
-        return given;
-    };
-    let mut sized = payload;
-    sized.size = n;
-    Given::Payload(sized)
+    let size = argument(s, Why::NoSize)?;
+    let payload = plain(kind, rest(s), out)?;
+    Ok(Payload { size, ..payload })
 }
 
-pub fn payload(to: &mut Out, at: At, s: &[u8], out: &mut [u8]) -> Given
-    ensures { left result out.new ≡ payload_of s.now out.old }
+#[tactic(auto, using(crate::proofs::Texts::texts), unfolding(crate::specs::Payload::payload_of, crate::specs::Payload::bytes_of))]
+pub fn payload<'a>(s: &'a [u8], out: &mut [u8]) -> Result<Payload, Wrong<'a>>
+    ensures { left (told result) out.new ≡ payload_of s.now out.old }
 {
-    let r = argument(to, at, s, wrong::NO_KIND);
-    let Spelled::Value(kind) = r else {
-        return Given::Wrong;
-    };
+    let kind = argument(s, Why::NoKind)?;
     let after = rest(s);
-    if 5 <= after.len() {
-        let start = 0;
-        let end = 5;
-        if same(&after[start..end], b"size=") {
-            return stated(to, at, kind, &after[end..], out);
-        }
+    match after.strip_prefix(b"size=") {
+        Some(sized) => stated(kind, sized, out),
+        None => plain(kind, after, out),
     }
-    plain(to, at, kind, after, out)
 }

@@ -1,74 +1,83 @@
-// Lines that are wrong: which, what is wrong, and what is expected.
-use crate::name::form;
-use print::{Fault, Out, flush, mark, numbered, piece, printable, text};
+// Lines that are wrong: what is wrong, and what is expected.
+ghost use Rattle.std.specs.Prelude.{◌≡◌};
 
-// What is wrong, by its place in the list below.
-pub const NO_SLOT: u64 = 0;
+use crate::name::Name;
+use print::{Fault, Out};
 
-pub const NO_COUNT: u64 = 1;
-
-pub const NO_KIND: u64 = 2;
-
-pub const NO_SIZE: u64 = 3;
-
-pub const NO_NUMBER: u64 = 4;
-
-pub const LARGE: u64 = 5;
-
-pub const TOO_MUCH: u64 = 6;
-
-pub const ODD: u64 = 7;
-
-pub const NO_HEX: u64 = 8;
-
-pub const LONG: u64 = 9;
-
-pub const NO_CALL: u64 = 10;
-
-fn reason(out: &mut Out, why: u64) {
-    piece(
-        out,
-        b"the slot number is missing|how many numbers are lent is missing|the kind is missing|the size is missing|\
-        is no decimal number|does not fit 64 bits|is too much|\
-        a byte is two hex digits that stand together|starts with no hex digit|more than 10000 bytes|is no call",
-        why,
-    );
+#[derive(Clone, Copy, Debug, PartialEq, Eq)]
+pub enum Why {
+    NoSlot,
+    NoCount,
+    NoKind,
+    NoSize,
+    NoNumber,
+    Large,
+    TooMuch,
+    Odd,
+    NoHex,
+    Long,
+    NoCall,
 }
 
-// A line by its number, and its call by the place of its name.
-#[derive(Clone, Copy)]
-pub struct At {
-    pub line: u64,
-    pub call: u64,
-}
-
-// The word that is wrong, if there is one.
-fn quoted(out: &mut Out, word: &[u8]) {
-    if word.len() != 0 {
-        text(out, b"'");
-        printable(out, word);
-        text(out, b"' ");
+impl Why {
+    fn text(self) -> &'static str {
+        match self {
+            Why::NoSlot => "the slot number is missing",
+            Why::NoCount => "how many numbers are lent is missing",
+            Why::NoKind => "the kind is missing",
+            Why::NoSize => "the size is missing",
+            Why::NoNumber => "is no decimal number",
+            Why::Large => "does not fit 64 bits",
+            Why::TooMuch => "is too much",
+            Why::Odd => "a byte is two hex digits that stand together",
+            Why::NoHex => "starts with no hex digit",
+            Why::Long => "more than 10000 bytes",
+            Why::NoCall => "is no call",
+        }
     }
 }
 
-// Each of the two marks the line as wrong.
-pub fn wrong(out: &mut Out, at: At, word: &[u8], why: u64) {
-    numbered(out, b"line #: ", at.line);
-    quoted(out, word);
-    reason(out, why);
-    text(out, b"; expected: ");
-    form(out, at.call);
-    text(out, b"\n");
-    flush(out);
-    mark(out, Fault::Line);
+// Why a line spells no call, and the word that is wrong, if there is one.
+#[derive(Clone, Copy)]
+pub struct Wrong<'a> {
+    pub why: Why,
+    pub word: &'a [u8],
 }
 
-pub fn long(out: &mut Out, n: u64) {
-    numbered(
-        out,
-        b"line #: the line is longer than 32767 characters\n",
-        n,
-    );
-    flush(out);
-    mark(out, Fault::Line);
+// What may stand where no call is named.
+const CALLS: &str = "open, close, sequence, picture, table, feed, read, explain or help";
+
+impl<'a> Wrong<'a> {
+    pub fn new(why: Why, word: &'a [u8]) -> Wrong<'a>
+        ensures { result.why ≡ why }
+    {
+        Wrong { why, word }
+    }
+
+    // Says it of a line, by its number, and of the call that the line names. The line is marked as wrong.
+    pub fn say(self, out: &mut Out, line: u64, name: Option<Name>) {
+        out.text("line ");
+        out.number(line);
+        out.text(": ");
+        if !self.word.is_empty() {
+            out.text("'");
+            out.printable(self.word);
+            out.text("' ");
+        }
+        out.text(self.why.text());
+        out.text("; expected: ");
+        out.text(name.map_or(CALLS, |name| name.form()));
+        out.text("\n");
+        out.flush();
+        out.mark(Fault::Line);
+    }
+}
+
+// Says of a line, by its number, that it is too long. It is marked as wrong too.
+pub fn long(out: &mut Out, line: u64) {
+    out.text("line ");
+    out.number(line);
+    out.text(": the line is longer than 32767 characters\n");
+    out.flush();
+    out.mark(Fault::Line);
 }

@@ -1,41 +1,43 @@
 // Held records, and what a reader answers: its number and, unless it is a refusal, the fields of the record.
 use crate::emulation::emulation;
-use crate::field::{NONE, Place, fields};
+use crate::field::{Field, Row};
 use crate::kind;
+use crate::kind::Beside;
 use crate::number::{hint, read, sentence};
-use crate::style::Style;
-use print::{Out, number, numbered, text};
+use crate::style::{Depth, Style};
+use print::Out;
 
 // A kind by number and name, on a line of its own.
 fn named(out: &mut Out, kind: u64) {
-    text(out, b"\n  kind ");
-    number(out, kind);
-    text(out, b": ");
-    kind::name(out, kind);
+    out.text("\n  kind ");
+    out.number(kind);
+    out.text(": ");
+    out.text(kind::name(kind));
 }
 
 // A held record, explained. The payload that it came from is gone.
 pub fn held(out: &mut Out, kind: u64, row: &[u64]) {
     named(out, kind);
-    kind::record(out, Style::Explained, kind, row, b"", b"", false);
+    let row = Row {
+        style: Style::Explained,
+        numbers: row,
+    };
+    let beside = Beside {
+        payload: b"",
+        part: b"",
+        aside: false,
+    };
+    kind::record(out, kind, row, beside);
 }
 
-fn extension(out: &mut Out, style: Style, row: &[u64]) {
-    let place = Place {
-        from: 0,
-        index: NONE,
-        depth: b'0',
-    };
-    fields(
-        out,
-        style,
-        row,
-        place,
-        b"0 extension=",
-        b"no extension bits; at most the bits that close the payload follow the message|\
-        bits between the message and those that close the payload, as newer firmware may add; they are not used",
-    );
-}
+const EXTENSION: &[Field] = &[Field {
+    depth: Depth::Always,
+    name: "extension",
+    means: &[
+        "no extension bits; at most the bits that close the payload follow the message",
+        "bits between the message and those that close the payload, as newer firmware may add; they are not used",
+    ],
+}];
 
 // A payload that was read: its kind and its stated size, and the number that it is answered.
 #[derive(Clone, Copy)]
@@ -49,10 +51,12 @@ pub struct Asked {
 fn introduce(out: &mut Out, asked: Asked, payload: &[u8]) {
     let n = asked.number;
     named(out, asked.kind);
-    numbered(out, b", size #\n  ", asked.size);
+    out.text(", size ");
+    out.number(asked.size);
+    out.text("\n  ");
     sentence(out, n);
     if n != 0 {
-        text(out, b"\n  Look at: ");
+        out.text("\n  Look at: ");
         hint(out, n, asked.kind);
         emulation(out, n, payload);
     }
@@ -62,15 +66,21 @@ fn introduce(out: &mut Out, asked: Asked, payload: &[u8]) {
 pub fn answer(out: &mut Out, style: Style, asked: Asked, row: &[u64], payload: &[u8], part: &[u8]) {
     let n = asked.number;
     read(out, n);
-    if let Style::Explained = style {
+    if style == Style::Explained {
         introduce(out, asked, payload);
     }
-    match n {
-        0 | 20 => {
-            extension(out, style, row);
-            kind::record(out, style, asked.kind, row, payload, part, n == 20);
-        }
-        _ => {}
+    if matches!(n, 0 | 20) {
+        let row = Row {
+            style,
+            numbers: row,
+        };
+        let beside = Beside {
+            payload,
+            part,
+            aside: n == 20,
+        };
+        row.fields(out, Depth::Always, EXTENSION);
+        kind::record(out, asked.kind, row, beside);
     }
-    text(out, b"\n");
+    out.text("\n");
 }

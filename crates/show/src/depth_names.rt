@@ -2,11 +2,103 @@
 // whether it is absent (0), unspecified (1) or a number (2), and the number's 64 bits.
 ghost use Rattle.std.specs.Prelude.{◌≤◌, ◌<◌};
 
-use crate::field::{NONE, Place, at, fields};
+use crate::field::{Field, Row};
 use crate::fraction::{decimal, multiple, power};
-use crate::names::carried;
-use crate::style::{Style, apart, depth};
-use print::{Out, bits, number, piece, text};
+use crate::style::{Depth, Style};
+use print::Out;
+
+const FIELDS: &[Field] = &[
+    Field {
+        depth: Depth::Always,
+        name: "z_near_flag",
+        means: &[
+            "the nearest depth is not coded",
+            "the nearest depth is coded",
+        ],
+    },
+    Field {
+        depth: Depth::Always,
+        name: "z_far_flag",
+        means: &[
+            "the farthest depth is not coded",
+            "the farthest depth is coded",
+        ],
+    },
+    Field {
+        depth: Depth::Always,
+        name: "d_min_flag",
+        means: &[
+            "the minimum disparity is not coded",
+            "the minimum disparity is coded",
+        ],
+    },
+    Field {
+        depth: Depth::Always,
+        name: "d_max_flag",
+        means: &[
+            "the maximum disparity is not coded",
+            "the maximum disparity is coded",
+        ],
+    },
+    Field {
+        depth: Depth::Always,
+        name: "depth_representation_type",
+        means: &[
+            "samples are the inverse of the distance",
+            "samples are disparity",
+            "samples are the distance",
+            "samples are disparity, mapped by the list",
+            "reserved",
+        ],
+    },
+    Field {
+        depth: Depth::Outer,
+        name: "disparity_ref_view_id",
+        means: &["the view for which disparities are derived"],
+    },
+];
+
+const NUMBERS: &[Field] = &[Field {
+    depth: Depth::Always,
+    name: "depth_nonlinear_representation_num_minus1",
+    means: &["one less than the numbers that follow, two less than the mapping's linear segments"],
+}];
+
+const NODE: &[Field] = &[Field {
+    depth: Depth::Always,
+    name: "depth_nonlinear_representation_model",
+    means: &["deviation from the straight line at this node"],
+}];
+
+// One of the four numbers: its name, and what it measures.
+#[derive(Clone, Copy)]
+struct Element {
+    name: &'static str,
+    measure: &'static str,
+}
+
+const DISTANCE: &str = "distance from the camera, its unit not specified";
+
+const SHIFT: &str = "shift between two views, in luma sample widths";
+
+const ELEMENTS: [Element; 4] = [
+    Element {
+        name: "z_near",
+        measure: DISTANCE,
+    },
+    Element {
+        name: "z_far",
+        measure: DISTANCE,
+    },
+    Element {
+        name: "d_min",
+        measure: SHIFT,
+    },
+    Element {
+        name: "d_max",
+        measure: SHIFT,
+    },
+];
 
 // m × 2^(e - 31 - v).
 fn product(out: &mut Out, m: u64, e: u64, v: u64)
@@ -32,119 +124,89 @@ fn magnitude(out: &mut Out, e: u64, v: u64, n: u64)
 }
 
 // The number in decimal; only a negative one has the highest of its 64 bits set.
-fn specified(out: &mut Out, row: &[u64], from: usize)
-    requires { from ≤ 256 }
-{
-    if 9223372036854775808 <= at(row, from + 5) {
-        text(out, b"-");
+fn specified(out: &mut Out, coded: Row<'_>) {
+    if 9223372036854775808 <= coded.at(5) {
+        out.text("-");
     }
     magnitude(
         out,
-        at(row, from + 1),
-        at(row, from + 2) % 32 + 1,
-        at(row, from + 3) % 4294967296,
+        coded.at(1),
+        coded.at(2) % 32 + 1,
+        coded.at(3) % 4294967296,
     );
 }
 
-// The name of one of the four, or of what codes it, by its end.
-fn name(out: &mut Out, flag: usize, end: &[u8]) {
-    piece(out, b"|z_near|z_far|d_min|d_max", flag as u64);
-    text(out, end);
-}
-
 // The number, if it is one, and its bits.
-fn value(out: &mut Out, row: &[u64], flag: usize, from: usize)
-    requires { from ≤ 256 }
-{
-    if at(row, from + 4) == 1 {
-        text(out, b"unspecified");
+fn value(out: &mut Out, coded: Row<'_>, name: &str) {
+    if coded.at(4) == 1 {
+        out.text("unspecified");
     } else {
-        specified(out, row, from);
-        text(out, b" ");
-        name(out, flag, b"_bits=");
-        bits(out, at(row, from + 5));
+        specified(out, coded);
+        out.text(" ");
+        out.text(name);
+        out.text("_bits=");
+        out.bits(coded.at(5));
     }
 }
 
-// A part of what codes it, by its name in depth_rep_info_element.
-fn part(out: &mut Out, flag: usize, end: &[u8], n: u64) {
-    text(out, b" ");
-    name(out, flag, end);
-    number(out, n);
+// The parts of what codes it, by their names in depth_rep_info_element.
+const PARTS: [&str; 4] = [
+    "da_sign_flag",
+    "da_exponent",
+    "da_mantissa_len_minus1",
+    "da_mantissa",
+];
+
+fn parts(out: &mut Out, coded: Row<'_>, name: &str) {
+    for (part, n) in PARTS.iter().zip(coded.numbers) {
+        out.text(" ");
+        out.text(name);
+        out.text(".");
+        out.text(part);
+        out.text("=");
+        out.number(*n);
+    }
 }
 
-fn parts(out: &mut Out, row: &[u64], flag: usize, from: usize)
-    requires { from ≤ 256 }
-{
-    part(out, flag, b".da_sign_flag=", at(row, from));
-    part(out, flag, b".da_exponent=", at(row, from + 1));
-    part(out, flag, b".da_mantissa_len_minus1=", at(row, from + 2));
-    part(out, flag, b".da_mantissa=", at(row, from + 3));
-}
-
-// What a number measures, where it is explained: the first two of the four are depths.
-fn measured(out: &mut Out, style: Style, flag: usize) {
-    let Style::Explained = style else {
+// One of the four numbers, by whether it is there, its six of the row, and, where it is explained, what it measures.
+fn shown(out: &mut Out, there: bool, coded: Row<'_>, element: Element) {
+    if coded.style.depth(there, false) < Depth::Outer {
         return;
-    };
-    if flag < 3 {
-        text(out, b": distance from the camera, its unit not specified");
-    } else {
-        text(out, b": shift between two views, in luma sample widths");
     }
-}
-
-// A number that is coded.
-fn coded(out: &mut Out, style: Style, row: &[u64], flag: usize)
-    requires { flag ≤ 4 }
-{
-    let from = 6 * flag + 1;
-    value(out, row, flag, from);
-    parts(out, row, flag, from);
-    measured(out, style, flag);
-}
-
-// One of the four numbers, which its flag in the row says is there.
-fn element(out: &mut Out, style: Style, row: &[u64], flag: usize)
-    requires { flag ≤ 4 }
-{
-    let there = at(row, flag) == 1;
-    if b'1' <= depth(style, there, false) {
-        apart(out, style);
-        name(out, flag, b"=");
-        if there {
-            coded(out, style, row, flag);
-        } else {
-            text(out, b"absent");
-        }
+    coded.style.apart(out);
+    out.text(element.name);
+    out.text("=");
+    if !there {
+        out.text("absent");
+        return;
+    }
+    value(out, coded, element.name);
+    parts(out, coded, element.name);
+    if coded.style == Style::Explained {
+        out.text(": ");
+        out.text(element.measure);
     }
 }
 
 // The list of type 3, which stands in the row from here on, and which H.274 counts from 1.
 const LIST: usize = 32;
 
-fn list(out: &mut Out, style: Style, row: &[u64], count: u64) {
-    let mut i: usize = LIST;
-    let mut index: u64 = 1;
-    while index <= count {
-        if row.len() <= i {
-            return;
-        }
-        let place = Place {
-            from: i,
-            index,
-            depth: b'0',
+// One less than how many there are, and the numbers; where there are none, nothing.
+fn list(out: &mut Out, row: Row<'_>, count: u64) {
+    let Some(less) = count.checked_sub(1) else {
+        return;
+    };
+    let one_less = Row {
+        style: row.style,
+        numbers: &[less],
+    };
+    one_less.fields(out, Depth::Always, NUMBERS);
+    for (index, numbers) in (1..=count).zip(row.from(LIST).numbers.chunks(1)) {
+        let node = Row {
+            style: row.style,
+            numbers,
         };
-        fields(
-            out,
-            style,
-            row,
-            place,
-            b"0 depth_nonlinear_representation_model",
-            b"deviation from the straight line at this node",
-        );
-        i += 1;
-        index += 1;
+        node.indexed(out, index, NODE);
     }
 }
 
@@ -153,44 +215,11 @@ fn viewed(d_min_flag: u64, d_max_flag: u64) -> bool {
     d_min_flag == 1 || d_max_flag == 1
 }
 
-pub(crate) fn depth_information(out: &mut Out, style: Style, row: &[u64]) {
-    fields(
-        out,
-        style,
-        row,
-        carried(style, viewed(at(row, 3), at(row, 4)), false),
-        b"0 z_near_flag=\n\
-        0 z_far_flag=\n\
-        0 d_min_flag=\n\
-        0 d_max_flag=\n\
-        0 depth_representation_type=\n\
-        1 disparity_ref_view_id=",
-        b"the nearest depth is not coded|the nearest depth is coded\n\
-        the farthest depth is not coded|the farthest depth is coded\n\
-        the minimum disparity is not coded|the minimum disparity is coded\n\
-        the maximum disparity is not coded|the maximum disparity is coded\n\
-        samples are the inverse of the distance|samples are disparity|samples are the distance|\
-        samples are disparity, mapped by the list|reserved\n\
-        the view for which disparities are derived",
-    );
-    element(out, style, row, 1);
-    element(out, style, row, 2);
-    element(out, style, row, 3);
-    element(out, style, row, 4);
-    let count = at(row, 31);
-    if 0 < count {
-        fields(
-            out,
-            style,
-            &[count - 1],
-            Place {
-                from: 0,
-                index: NONE,
-                depth: b'0',
-            },
-            b"0 depth_nonlinear_representation_num_minus1=",
-            b"one less than the numbers that follow, two less than the mapping's linear segments",
-        );
-        list(out, style, row, count);
+pub(crate) fn depth_information(out: &mut Out, row: Row<'_>) {
+    let depth = row.style.depth(viewed(row.at(3), row.at(4)), false);
+    row.from(1).fields(out, depth, FIELDS);
+    for (i, element) in ELEMENTS.iter().enumerate() {
+        shown(out, row.at(i + 1) == 1, row.from(6 * i + 7), *element);
     }
+    list(out, row, row.at(31));
 }

@@ -1,128 +1,85 @@
-// A field: its name, its value and, where a message is explained, what the value means. Names stand apart from what values mean, so that a
-// line, which has names alone, is quick to write.
-ghost use Rattle.std.specs.Prelude.{◌≤◌, length};
+// A field: its name, its value and, where a message is explained, what the value means.
+use crate::style::{Depth, Style};
+use print::Out;
 
-use crate::style::{Style, margin};
-use print::{Out, byte, number, piece, text};
-use words::place::find;
-
-// Where fields stand in a row, and which of them are shown.
 #[derive(Clone, Copy)]
-pub(crate) struct Place {
-    pub from: usize,
-    // The index that follows their names.
-    pub index: u64,
-    // How deep a field may lie (`style::depth`).
-    pub depth: u8,
+pub(crate) struct Field {
+    pub depth: Depth,
+    pub name: &'static str,
+    // What 0, 1 and so on mean, the last for all that are larger. There is none where the number says it all.
+    pub means: &'static [&'static str],
 }
 
-// The index of names that have none.
-pub(crate) const NONE: u64 = 18446744073709551615;
+// Meanings that several kinds share.
+pub(crate) const CANCELS: &[&str] = &["fields follow", "ends what is held"];
 
-// The number at a place of a row; 0 past its end.
-pub(crate) fn at(row: &[u64], i: usize) -> u64 {
-    if i < row.len() { row[i] } else { 0 }
+pub(crate) const PERSISTS: &[&str] = &["this picture only", "until the next message or sequence"];
+
+pub(crate) const PROJECTED: &[&str] = &["relative projected picture sample units"];
+
+pub(crate) const PACKED: &[&str] = &["relative packed picture sample units"];
+
+// The numbers of a record, or of a part of one, in the order of its row; and how they are shown.
+#[derive(Clone, Copy)]
+pub(crate) struct Row<'a> {
+    pub style: Style,
+    pub numbers: &'a [u64],
 }
 
-// Meanings that several kinds share, by a letter.
-fn common(out: &mut Out, letter: u8, n: u64) {
-    match letter {
-        b'c' => piece(out, b"fields follow|ends what is held", n),
-        b'p' => piece(
-            out,
-            b"this picture only|until the next message or sequence",
-            n,
-        ),
-        b'j' => text(out, b"relative projected picture sample units"),
-        _ => text(out, b"relative packed picture sample units"),
+impl<'a> Row<'a> {
+    // The number at a place; 0 past the row's end.
+    pub fn at(self, i: usize) -> u64 {
+        self.numbers.get(i).copied().unwrap_or(0)
     }
-}
 
-// What 0, 1 and so on mean, with a bar between them, the last for all that are larger; or '@' and the letter of a shared meaning.
-fn meaning(out: &mut Out, s: &[u8], n: u64) {
-    if s.len() == 0 {
-        return;
-    }
-    text(out, b": ");
-    let letter = 1;
-    if letter < s.len() {
-        if s[0] == b'@' {
-            common(out, s[letter], n);
-            return;
+    // What stands from a place on.
+    pub fn from(self, place: usize) -> Row<'a> {
+        Row {
+            style: self.style,
+            numbers: self.numbers.get(place..).unwrap_or(&[]),
         }
     }
-    piece(out, s, n);
-}
 
-fn named(out: &mut Out, name: &[u8], index: u64) {
-    text(out, name);
-    if index != NONE {
-        byte(out, b'[');
-        number(out, index);
-        text(out, b"]=");
+    // How deep a field may lie, by the first of them, which cancels, and the one at a place, which says whether the deeper ones are there. The
+    // extension's length stands before them all.
+    pub fn uncancelled(self, flag: usize) -> Depth {
+        self.style.depth(self.at(1) == 0, self.at(flag) == 1)
     }
-}
 
-// A field by its name, before which stands how deep it lies and a space, and by what its values mean. The space goes before the name: in a line
-// it parts the fields, and explained it is the last of a line's margin.
-fn field(out: &mut Out, style: Style, place: Place, n: u64, name: &[u8], means: &[u8]) {
-    let start = 1;
-    if name.len() < start {
-        return;
+    // The numbers by the fields that they are, but for those that lie too deep.
+    pub fn fields(self, out: &mut Out, depth: Depth, fields: &[Field]) {
+        self.shown(out, depth, None, fields);
     }
-    if name[0] <= place.depth {
-        margin(out, style);
-        named(out, &name[start..], place.index);
-        number(out, n);
-        if let Style::Explained = style {
-            meaning(out, means, n);
+
+    // The numbers by fields that are all there and have an index.
+    pub fn indexed(self, out: &mut Out, index: u64, fields: &[Field]) {
+        self.shown(out, Depth::Inner, Some(index), fields);
+    }
+
+    fn shown(self, out: &mut Out, depth: Depth, index: Option<u64>, fields: &[Field]) {
+        for (field, n) in fields.iter().zip(self.numbers) {
+            if field.depth <= depth {
+                self.style.apart(out);
+                field.show(out, self.style, index, *n);
+            }
         }
     }
 }
 
-// Where the line after the one that ends there starts.
-fn after(s: &[u8], end: usize) -> usize
-    requires { end ≤ length s.now }
-    ensures { (end ≤ result) × (result ≤ length s.now) }
-{
-    if end < s.len() { end + 1 } else { end }
-}
-
-// The end of the line that starts there, where it is wanted: in a line nobody asks what values mean, and there is no need to look for it.
-fn wanted(style: Style, s: &[u8], start: usize) -> usize
-    requires { start ≤ length s.now }
-    ensures { (start ≤ result) × (result ≤ length s.now) }
-{
-    match style {
-        Style::Line => start,
-        Style::Explained => find(s, start, b'\n'),
-    }
-}
-
-// The numbers of a row from a place on: a line of names for each, and a line of what its values mean.
-pub(crate) fn fields(
-    out: &mut Out,
-    style: Style,
-    row: &[u64],
-    place: Place,
-    names: &[u8],
-    means: &[u8],
-) {
-    let mut i = place.from;
-    let mut p = 0;
-    let mut q = 0;
-    while p < names.len() {
-        if row.len() <= i {
-            return;
+impl Field {
+    // The field of value n.
+    fn show(self, out: &mut Out, style: Style, index: Option<u64>, n: u64) {
+        out.text(self.name);
+        if let Some(index) = index {
+            out.text("[");
+            out.number(index);
+            out.text("]");
         }
-        let name = find(names, p, b'\n');
-        let mean = wanted(style, means, q);
-        field(out, style, place, row[i], &names[p..name], &means[q..mean]);
-        if name == names.len() {
-            return;
+        out.text("=");
+        out.number(n);
+        if style == Style::Explained && !self.means.is_empty() {
+            out.text(": ");
+            out.piece(self.means, n);
         }
-        p = name + 1;
-        q = after(means, mean);
-        i += 1;
     }
 }

@@ -1,7 +1,7 @@
 // Numbers m × 2^k and m / 2^k in decimal, to the last digit.
 ghost use Rattle.std.specs.Prelude.{◌≡◌, ◌^◌, ◌≤◌, ◌<◌};
 
-use print::{Out, number, padded, text};
+use print::Out;
 
 // 2^k.
 pub(crate) fn power(k: u64) -> u64
@@ -12,16 +12,14 @@ pub(crate) fn power(k: u64) -> u64
 }
 
 // The digits of rest / parts, parts being a power of two: ten times a half is five times the whole.
-fn digits(out: &mut Out, rest: u64, parts: u64)
+fn digits(out: &mut Out, mut rest: u64, mut parts: u64)
     requires { (rest < parts) × (rest ≤ 2305843009213693952) × (parts ≤ 4611686018427387904) }
 {
-    let mut r = rest;
-    let mut p = parts;
-    while 0 < r {
-        p = p / 2;
-        r = r * 5;
-        number(out, r / p);
-        r = r % p;
+    while 0 < rest {
+        parts /= 2;
+        rest *= 5;
+        out.number(rest / parts);
+        rest %= parts;
     }
 }
 
@@ -29,10 +27,10 @@ fn digits(out: &mut Out, rest: u64, parts: u64)
 pub(crate) fn decimal(out: &mut Out, n: u64, parts: u64)
     requires { (n ≤ 2305843009213693952) × (0 < parts) × (parts ≤ 4611686018427387904) }
 {
-    number(out, n / parts);
+    out.number(n / parts);
     let rest = n % parts;
     if 0 < rest {
-        text(out, b".");
+        out.text(".");
         digits(out, rest, parts);
     }
 }
@@ -44,18 +42,16 @@ const LIMB: u64 = 1000000000000000;
 pub(crate) fn multiple(out: &mut Out, m: u64, k: u64)
     requires { m < 1000000000000000 }
 {
-    let mut high: u64 = 0;
+    let mut high = 0;
     let mut low = m;
-    let mut left = k;
-    while 0 < left {
+    for _ in 0..k {
         high = (2 * high + 2 * low / LIMB) % LIMB;
         low = 2 * low % LIMB;
-        left -= 1;
     }
     if high == 0 {
-        number(out, low);
+        out.number(low);
     } else {
-        number(out, high);
-        padded(out, low);
+        out.number(high);
+        out.padded(low);
     }
 }

@@ -1,46 +1,35 @@
 // Guard band types of kinds 150 and 155: 0 to 3, and 4 to 7, which are reserved and read as 0.
-ghost use Rattle.std.specs.Prelude.{◌≤◌, ◌<◌};
+ghost use Rattle.std.specs.Prelude.{◌<◌};
 
-use print::{Out, piece};
-
-// What a type that was handed out as 0 is taken for where the payload is not there to tell how it is coded.
-const UNKNOWN: u64 = 8;
-
-fn wide(b: u8) -> u64
-    ensures { result ≤ 255 }
+// How a type n is coded: by three bits of the first two of these bytes, of which so many lie below them. Where 0 was handed out and the bytes are not
+// there, it cannot be told.
+pub(crate) fn code(n: u64, bytes: &[u8], below: u64) -> Option<u64>
+    requires { below < 16 }
 {
-    b as u64
-}
-
-// How a type n is coded: by three bits of the two bytes at a place, of which so many lie below them.
-pub(crate) fn code(n: u64, payload: &[u8], at: usize, below: u64) -> u64
-    requires { (at ≤ 65536) × (below < 16) }
-{
-    let next = at + 1;
     if n != 0 {
-        return n;
+        return Some(n);
     }
-    if payload.len() <= next {
-        return UNKNOWN;
+    match bytes {
+        [high, low, ..] => Some(((256 * u64::from(*high) + u64::from(*low)) >> below) % 8),
+        _ => None,
     }
-    ((256 * wide(payload[at]) + wide(payload[next])) >> below) % 8
 }
 
-pub(crate) fn reserved(code: u64) -> bool {
-    if code < 4 {
-        return false;
-    }
-    code < UNKNOWN
+// The code of a reserved type.
+pub(crate) fn reserved(code: Option<u64>) -> Option<u64> {
+    code.filter(|code| matches!(*code, 4..=7))
 }
 
-pub(crate) fn meaning(out: &mut Out, code: u64) {
-    piece(
-        out,
-        b"content unknown|enough content to interpolate between samples|\
-        picture content, its quality changing towards the neighbour's|picture content of like quality|\
-        coded 4, which is reserved; content unknown|coded 5, which is reserved; content unknown|\
-        coded 6, which is reserved; content unknown|coded 7, which is reserved; content unknown|\
-        content unknown, or coded as 4 to 7",
-        code,
-    );
+pub(crate) fn meaning(code: Option<u64>) -> &'static str {
+    match code {
+        Some(0) => "content unknown",
+        Some(1) => "enough content to interpolate between samples",
+        Some(2) => "picture content, its quality changing towards the neighbour's",
+        Some(3) => "picture content of like quality",
+        Some(4) => "coded 4, which is reserved; content unknown",
+        Some(5) => "coded 5, which is reserved; content unknown",
+        Some(6) => "coded 6, which is reserved; content unknown",
+        Some(7) => "coded 7, which is reserved; content unknown",
+        _ => "content unknown, or coded as 4 to 7",
+    }
 }

@@ -1,16 +1,28 @@
 // Kind 154, sphere rotation.
 ghost use Rattle.std.specs.Prelude.{◌≤◌};
 
-use crate::field::{at, fields};
+use crate::field::{CANCELS, Field, PERSISTS, Row};
 use crate::fraction::decimal;
-use crate::names::uncancelled;
-use crate::style::{Style, apart};
-use print::{Out, bits, number, text};
+use crate::style::Depth;
+use print::Out;
+
+const FIELDS: &[Field] = &[
+    Field {
+        depth: Depth::Always,
+        name: "sphere_rotation_cancel_flag",
+        means: CANCELS,
+    },
+    Field {
+        depth: Depth::Outer,
+        name: "sphere_rotation_persistence_flag",
+        means: PERSISTS,
+    },
+];
 
 // The sign of a number of 32 bits in two's complement.
 fn minus(out: &mut Out, coded: u64) {
     if 2147483648 <= coded {
-        text(out, b"-");
+        out.text("-");
     }
 }
 
@@ -25,44 +37,32 @@ fn magnitude(coded: u64) -> u64
     }
 }
 
-// The angle at a place of the row: the coded number, the degrees that it makes, and, three places on in the row, the 64 bits of their float.
-fn angle(out: &mut Out, style: Style, row: &[u64], i: usize, name: &[u8])
-    requires { i ≤ 256 }
-{
-    let coded = at(row, i);
-    let float = at(row, i + 3);
+// The angle with which the row begins: the coded number, the degrees that it makes, and, three places on, the 64 bits of their float.
+fn angle(out: &mut Out, row: Row<'_>, name: &str) {
+    let coded = row.at(0);
     let n = magnitude(coded);
-    apart(out, style);
-    text(out, name);
-    text(out, b"_rotation=");
+    row.style.apart(out);
+    out.text(name);
+    out.text("_rotation=");
     minus(out, coded);
-    number(out, n);
-    text(out, b" ");
-    text(out, name);
-    text(out, b"_degrees=");
+    out.number(n);
+    out.text(" ");
+    out.text(name);
+    out.text("_degrees=");
     minus(out, coded);
     decimal(out, n, 65536);
-    text(out, b" ");
-    text(out, name);
-    text(out, b"_bits=");
-    bits(out, float);
+    out.text(" ");
+    out.text(name);
+    out.text("_bits=");
+    out.bits(row.at(3));
 }
 
-pub(crate) fn rotation(out: &mut Out, style: Style, row: &[u64]) {
-    let place = uncancelled(style, row, 1);
-    fields(
-        out,
-        style,
-        row,
-        place,
-        b"0 sphere_rotation_cancel_flag=\n\
-        1 sphere_rotation_persistence_flag=",
-        b"@c\n\
-        @p",
-    );
-    if b'1' <= place.depth {
-        angle(out, style, row, 3, b"yaw");
-        angle(out, style, row, 4, b"pitch");
-        angle(out, style, row, 5, b"roll");
+pub(crate) fn rotation(out: &mut Out, row: Row<'_>) {
+    let depth = row.uncancelled(1);
+    row.from(1).fields(out, depth, FIELDS);
+    if Depth::Outer <= depth {
+        angle(out, row.from(3), "yaw");
+        angle(out, row.from(4), "pitch");
+        angle(out, row.from(5), "roll");
     }
 }

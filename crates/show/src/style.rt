@@ -1,7 +1,7 @@
 // How fields are shown.
-use print::{Out, text};
+use print::Out;
 
-#[derive(Clone, Copy)]
+#[derive(Clone, Copy, PartialEq, Eq)]
 pub enum Style {
     // Every field of a record, in one line.
     Line,
@@ -9,28 +9,29 @@ pub enum Style {
     Explained,
 }
 
-// What goes before the space that stands before a field.
-pub(crate) fn margin(out: &mut Out, style: Style) {
-    match style {
-        Style::Line => {}
-        Style::Explained => text(out, b"\n "),
+// How deep a field lies: always carried, carried where an outer condition holds, or where an inner one does too.
+#[derive(Clone, Copy, PartialEq, Eq, PartialOrd, Ord)]
+pub(crate) enum Depth {
+    Always,
+    Outer,
+    Inner,
+}
+
+impl Style {
+    // What goes before a field.
+    pub(crate) fn apart(self, out: &mut Out) {
+        match self {
+            Style::Line => out.text(" "),
+            Style::Explained => out.text("\n  "),
+        }
     }
-}
 
-// What goes before a field.
-pub(crate) fn apart(out: &mut Out, style: Style) {
-    margin(out, style);
-    text(out, b" ");
-}
-
-// How deep a field may lie to be shown: 0 is always carried, 1 where the outer condition holds, 2 where both do.
-pub(crate) fn depth(style: Style, outer: bool, inner: bool) -> u8 {
-    let Style::Explained = style else {
-        return b'2';
-    };
-    if outer {
-        if inner { b'2' } else { b'1' }
-    } else {
-        b'0'
+    // How deep a field may lie to be shown.
+    pub(crate) fn depth(self, outer: bool, inner: bool) -> Depth {
+        match (self, outer, inner) {
+            (Style::Line, _, _) | (_, true, true) => Depth::Inner,
+            (_, true, false) => Depth::Outer,
+            (_, false, _) => Depth::Always,
+        }
     }
 }

@@ -1,39 +1,68 @@
 // The rows of a region table, by the names of 8.15.5.2.
-use crate::field::{NONE, Place, fields};
-use crate::style::Style;
-use print::{Out, numbered};
+use crate::field::{Field, Row};
+use crate::style::{Depth, Style};
+use print::Out;
 
-// A row on a line of its own.
-fn line(out: &mut Out, rows: &[u64], i: u32) {
-    numbered(out, b"\n  row=#", i as u64);
-    let place = Place {
-        from: 9 * (i as usize),
-        index: NONE,
-        depth: b'0',
-    };
-    fields(
-        out,
-        Style::Line,
-        rows,
-        place,
-        b"0 ProjRegionLeft=\n\
-        0 ProjRegionTop=\n\
-        0 ProjRegionWidth=\n\
-        0 ProjRegionHeight=\n\
-        0 PackedRegionLeft=\n\
-        0 PackedRegionTop=\n\
-        0 PackedRegionWidth=\n\
-        0 PackedRegionHeight=\n\
-        0 TransformType=",
-        b"",
-    );
-}
+const FIELDS: &[Field] = &[
+    Field {
+        depth: Depth::Always,
+        name: "ProjRegionLeft",
+        means: &[],
+    },
+    Field {
+        depth: Depth::Always,
+        name: "ProjRegionTop",
+        means: &[],
+    },
+    Field {
+        depth: Depth::Always,
+        name: "ProjRegionWidth",
+        means: &[],
+    },
+    Field {
+        depth: Depth::Always,
+        name: "ProjRegionHeight",
+        means: &[],
+    },
+    Field {
+        depth: Depth::Always,
+        name: "PackedRegionLeft",
+        means: &[],
+    },
+    Field {
+        depth: Depth::Always,
+        name: "PackedRegionTop",
+        means: &[],
+    },
+    Field {
+        depth: Depth::Always,
+        name: "PackedRegionWidth",
+        means: &[],
+    },
+    Field {
+        depth: Depth::Always,
+        name: "PackedRegionHeight",
+        means: &[],
+    },
+    Field {
+        depth: Depth::Always,
+        name: "TransformType",
+        means: &[],
+    },
+];
 
-// As many rows as count says.
+// How many numbers a row has.
+const WIDTH: usize = 9;
+
+// As many rows as count says, each on a line of its own.
 pub fn table(out: &mut Out, rows: &[u64], count: u32) {
-    let mut i: u32 = 0;
-    while i < count {
-        line(out, rows, i);
-        i += 1;
+    for (i, numbers) in (0..u64::from(count)).zip(rows.chunks(WIDTH)) {
+        let row = Row {
+            style: Style::Line,
+            numbers,
+        };
+        out.text("\n  row=");
+        out.number(i);
+        row.fields(out, Depth::Always, FIELDS);
     }
 }

@@ -1,17 +1,15 @@
 -- Each public contract determines its result.
 -- Assumes nothing.
-use mathlib.Core.Path.{sym, ap, ◌∙◌}
-use Rattle.bits.proofs.Determined.{Determines}
+use mathlib.Core.Path.{◌≡◌, sym, ap, ◌∙◌}
+use contract.Lifetimes.{Lfts}
+use denote.Triple.Clauses.{AtExit}
+use borrow.Fn.Kinds.{ended_of}
+use Rattle.bits.proofs.Determined.{Determines, DeterminesAll}
 use Rattle.held.specs.declared.Held.{Held}
-use Rattle.slots.specs.declared.Answer.{Answer}
 use Rattle.slots.specs.declared.Slot.{Slot}
 use Rattle.slots.specs.declared.Slots.{Slots}
-use Rattle.slots.specs.declared.Turned.{Turned}
-use Rattle.slots.specs.declared.Shown.{Shown}
-use Rattle.slots.specs.declared.Called.{Called}
-use Rattle.slots.specs.declared.Pictured.{Pictured}
-use Rattle.slots.proofs.Answer.number.Kinds as number-kinds
-use Rattle.slots.proofs.Answer.number.Reads as number-reads
+use Rattle.slots.proofs.number.Kinds as number-kinds
+use Rattle.slots.proofs.number.Reads as number-reads
 use Rattle.slots.proofs.Slot.fresh.Kinds as fresh-kinds
 use Rattle.slots.proofs.Slot.fresh.Reads as fresh-reads
 use Rattle.slots.proofs.Slot.closed.Kinds as closed-slot-kinds
@@ -39,18 +37,25 @@ use Rattle.slots.proofs.Slots.sequence.Reads as sequence-reads
 use Rattle.slots.proofs.Slots.picture.Kinds as picture-kinds
 use Rattle.slots.proofs.Slots.picture.Reads as picture-reads
 
--- an answer and what is left, as one struct
-abbrev turned : Slot × Answer → Turned
-turned w = record { answer = w.1; slot = w.0 }
+-- what stands at exit of the first parameter, and of the last
+abbrev slot_left : (κs : Lfts 1) → AtExit (ended_of 1 close-slot-kinds.ps close-slot-kinds.r) κs → Slot
+slot_left κs s = s.0.now
 
-abbrev shown : Slot × (Answer × Held) → Shown
-shown w = record { answer = w.1.0; held = w.1.1; slot = w.0 }
+abbrev slot_shown : (κs : Lfts 2) → AtExit (ended_of 2 picture-slot-kinds.ps picture-slot-kinds.r) κs → Slot × Held
+slot_shown κs s = (s.0.now, s.1.0.now)
 
-abbrev called : Slots × Answer → Called
-called w = record { answer = w.1; slots = w.0 }
+abbrev slots_left : (κs : Lfts 1) → AtExit (ended_of 1 close-kinds.ps close-kinds.r) κs → Slots
+slots_left κs s = s.0.now
 
-abbrev pictured : Slots × (Answer × Held) → Pictured
-pictured w = record { answer = w.1.0; held = w.1.1; slots = w.0 }
+abbrev slots_shown : (κs : Lfts 2) → AtExit (ended_of 2 picture-kinds.ps picture-kinds.r) κs → Slots × Held
+slots_shown κs s = (s.0.now, s.1.1.0.now)
+
+module _ {A B : Type 0} where
+  parted : {x y : A} {s t : B} {w : B × A} → ◌≡◌ {A = B × A} (s, x) w → (t, y) ≡ w → (x ≡ y) × (s ≡ t)
+  parted p q = (ap (λ (w : B × A). w.1) (p ∙ sym q), ap (λ (w : B × A). w.0) (p ∙ sym q))
+
+  shown : {C : Type 0} {x y : A} {s t : B} {h g : C} {w : B × (A × C)} → ◌≡◌ {A = B × (A × C)} (s, (x, h)) w → (t, (y, g)) ≡ w → (x ≡ y) × (◌≡◌ {A = B × C} (s, h) (t, g))
+  shown {C = C} p q = (ap (λ (w : B × (A × C)). w.1.0) (p ∙ sym q), ap (λ (w : B × (A × C)). (w.0, w.1.1)) (p ∙ sym q))
 
 pub number-determined : Determines 0 number-kinds.ps number-kinds.r number-reads.Post
 number-determined κs a x y s t p q = p ∙ sym q
@@ -61,35 +66,35 @@ fresh-determined κs a x y s t p q = p ∙ sym q
 pub closed-slot-determined : Determines 0 closed-slot-kinds.ps closed-slot-kinds.r closed-slot-reads.Post
 closed-slot-determined κs a x y s t p q = p ∙ sym q
 
-pub is-open-determined : Determines 0 is-open-kinds.ps is-open-kinds.r is-open-reads.Post
+pub is-open-determined : Determines 1 is-open-kinds.ps is-open-kinds.r is-open-reads.Post
 is-open-determined κs a x y s t p q = p ∙ sym q
 
 pub holding-determined : Determines 0 holding-kinds.ps holding-kinds.r holding-reads.Post
 holding-determined κs a x y s t p q = p ∙ sym q
 
-pub close-slot-determined : Determines 0 close-slot-kinds.ps close-slot-kinds.r close-slot-reads.Post
-close-slot-determined κs a x y s t p q = ap turned (p ∙ sym q)
+pub close-slot-determined : DeterminesAll 1 close-slot-kinds.ps close-slot-kinds.r slot_left close-slot-reads.Post
+close-slot-determined κs a x y s t p q = parted p q
 
-pub sequence-slot-determined : Determines 0 sequence-slot-kinds.ps sequence-slot-kinds.r sequence-slot-reads.Post
-sequence-slot-determined κs a x y s t p q = ap turned (p ∙ sym q)
+pub sequence-slot-determined : DeterminesAll 1 sequence-slot-kinds.ps sequence-slot-kinds.r slot_left sequence-slot-reads.Post
+sequence-slot-determined κs a x y s t p q = parted p q
 
-pub picture-slot-determined : Determines 0 picture-slot-kinds.ps picture-slot-kinds.r picture-slot-reads.Post
-picture-slot-determined κs a x y s t p q = ap shown (p ∙ sym q)
+pub picture-slot-determined : DeterminesAll 2 picture-slot-kinds.ps picture-slot-kinds.r slot_shown picture-slot-reads.Post
+picture-slot-determined κs a x y s t p q = shown p q
 
 pub start-determined : Determines 0 start-kinds.ps start-kinds.r start-reads.Post
 start-determined κs a x y s t p q = p ∙ sym q
 
-pub slot-determined : Determines 0 slot-kinds.ps slot-kinds.r slot-reads.Post
+pub slot-determined : Determines 1 slot-kinds.ps slot-kinds.r slot-reads.Post
 slot-determined κs a x y s t p q = p ∙ sym q
 
-pub open-determined : Determines 0 open-kinds.ps open-kinds.r open-reads.Post
-open-determined κs a x y s t p q = ap called (p ∙ sym q)
+pub open-determined : DeterminesAll 1 open-kinds.ps open-kinds.r slots_left open-reads.Post
+open-determined κs a x y s t p q = parted p q
 
-pub close-determined : Determines 0 close-kinds.ps close-kinds.r close-reads.Post
-close-determined κs a x y s t p q = ap called (p ∙ sym q)
+pub close-determined : DeterminesAll 1 close-kinds.ps close-kinds.r slots_left close-reads.Post
+close-determined κs a x y s t p q = parted p q
 
-pub sequence-determined : Determines 0 sequence-kinds.ps sequence-kinds.r sequence-reads.Post
-sequence-determined κs a x y s t p q = ap called (p ∙ sym q)
+pub sequence-determined : DeterminesAll 1 sequence-kinds.ps sequence-kinds.r slots_left sequence-reads.Post
+sequence-determined κs a x y s t p q = parted p q
 
-pub picture-determined : Determines 0 picture-kinds.ps picture-kinds.r picture-reads.Post
-picture-determined κs a x y s t p q = ap pictured (p ∙ sym q)
+pub picture-determined : DeterminesAll 2 picture-kinds.ps picture-kinds.r slots_shown picture-reads.Post
+picture-determined κs a x y s t p q = shown p q

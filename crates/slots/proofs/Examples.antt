@@ -5,15 +5,14 @@ use mathlib.Core.List.{[], ◌∷◌}
 use Rattle.format.specs.Syntax.{i32, times}
 use Rattle.kind_region_wise.specs.RegionWise.{region}
 use Rattle.held.specs.Held.{none_of, kept_of, nothing, kept}
-use Rattle.slots.specs.Slots.{call_number, refused, fresh_slot, closed_slot, is_open, holding, opening, closing, sequencing, picturing, start, slot_at, with_slot, stay, lifted}
+use Rattle.slots.specs.Slots.{done, call_number, refused, fresh_slot, closed_slot, is_open, holding, opening, closing, sequencing, picturing, start, slot_at, with_slot, stay, lifted}
 use Rattle.slots.specs.declared.Slots.{Slots}
-use Rattle.slots.specs.declared.Answer.TheVariants.{Done}
 
 abbrev opened : Slots → Slots
 opened s = (lifted opening refused s 3).0
 
 -- opening slot 3 opens it and no other
-opens : lifted opening refused start 3 ≡ (record { slots = closed_slot ∷ closed_slot ∷ closed_slot ∷ fresh_slot ∷ closed_slot ∷ closed_slot ∷ closed_slot ∷ closed_slot ∷ [] }, Done)
+opens : lifted opening refused start 3 ≡ (record { slots = closed_slot ∷ closed_slot ∷ closed_slot ∷ fresh_slot ∷ closed_slot ∷ closed_slot ∷ closed_slot ∷ closed_slot ∷ [] }, done)
 unfolding lifted start with_slot
 opens = refl
 
@@ -31,7 +30,7 @@ unfolding lifted
 number-8 = refl
 
 -- a picture on an empty open slot is done, and shows nothing five times
-shows_nothing : lifted picturing (refused, nothing) (opened start) 3 ≡ (opened start, (Done, nothing))
+shows_nothing : lifted picturing (refused, nothing) (opened start) 3 ≡ (opened start, (done, nothing))
 unfolding i32 times region lifted start slot_at with_slot holding is_open fresh_slot closed_slot kept nothing none_of kept_of
 shows_nothing = refl
 
@@ -49,7 +48,7 @@ unfolding lifted start slot_at with_slot is_open closed_slot
 closed-sequence = refl
 
 -- closing an open slot gives the start again
-closes : lifted closing refused (opened start) 3 ≡ (start, Done)
+closes : lifted closing refused (opened start) 3 ≡ (start, done)
 unfolding lifted start slot_at with_slot is_open fresh_slot closed_slot
 closes = refl
 

@@ -12,12 +12,10 @@ use borrow.Author.Tests.{lt-ltb, le-ltb}
 use Rattle.bits.proofs.BitLaws.{below}
 use Rattle.std.specs.Prelude.{if◌then◌else◌}
 use Rattle.held.specs.Held.{nothing, kept}
-use Rattle.slots.specs.Slots.{call_number, refused, fresh_slot, closed_slot, is_open, holding, when_open, opening, closing, sequencing, picturing, start, Eight, slot_at, with_slot, lifted, Shut, ButFor}
+use Rattle.slots.specs.Slots.{Answer, done, call_number, refused, fresh_slot, closed_slot, is_open, holding, when_open, opening, closing, sequencing, picturing, start, Eight, slot_at, with_slot, lifted, Shut, ButFor}
 use Rattle.held.specs.declared.Held.{Held}
 use Rattle.slots.specs.declared.Slot.{Slot}
 use Rattle.slots.specs.declared.Slots.{Slots}
-use Rattle.slots.specs.declared.Answer.{Answer}
-use Rattle.slots.specs.declared.Answer.TheVariants.{Done}
 use Rattle.slots.proofs.Entries.{get_or-in}
 
 -- ---- one slot
@@ -199,14 +197,14 @@ shut-8 {A} number shut acts is not s n e = (to (below n 8), back)
     back : Shut s n → number (lifted call shut s n).1 ≡ 8
     back h = ap number answered ∙ ap (λ (w : Slot × A). number w.1) (where-shut (slot_at s n) shut (acts (slot_at s n)) (shut-off s n e h)) ∙ is
 
-done-not-8 : call_number Done ≢ 8
+done-not-8 : call_number done ≢ 8
 done-not-8 q = omega arith
 
 pub closed-8 : (s : Slots) (n : ℕ) → Eight s → (call_number (lifted closing refused s n).1 ≡ 8) ↔ Shut s n
-closed-8 = shut-8 call_number refused (λ x. (closed_slot, Done)) refl (λ x. done-not-8)
+closed-8 = shut-8 call_number refused (λ x. (closed_slot, done)) refl (λ x. done-not-8)
 
 pub sequenced-8 : (s : Slots) (n : ℕ) → Eight s → (call_number (lifted sequencing refused s n).1 ≡ 8) ↔ Shut s n
-sequenced-8 = shut-8 call_number refused (λ x. (fresh_slot, Done)) refl (λ x. done-not-8)
+sequenced-8 = shut-8 call_number refused (λ x. (fresh_slot, done)) refl (λ x. done-not-8)
 
 pub pictured-8 : (s : Slots) (n : ℕ) → Eight s → (call_number (lifted picturing (refused, nothing) s n).1.0 ≡ 8) ↔ Shut s n
-pictured-8 = shut-8 (λ (w : Answer × Held). call_number w.0) (refused, nothing) (λ x. (holding x (kept x.held), (Done, x.held))) refl (λ x. done-not-8)
+pictured-8 = shut-8 (λ (w : Answer × Held). call_number w.0) (refused, nothing) (λ x. (holding x (kept x.held), (done, x.held))) refl (λ x. done-not-8)

@@ -1,21 +1,27 @@
 -- One slot, and what each call answers and leaves of it: RULES 11. Then the eight, to which a call on one is lifted.
-use Rattle.std.specs.Prelude.{ℕ, ◌≤◌, Bool, false, ◌≡◌, ◌≢◌, ◌⊎◌, eqb, ltb, length, replicate, get_or, set, if◌then◌else◌}
+use Rattle.std.specs.Prelude.{Result, Ok, Err, ℕ, ◌≤◌, Bool, false, ◌≡◌, ◌≢◌, ◌⊎◌, eqb, ltb, length, replicate, get_or, set, if◌then◌else◌}
+use Rattle.bits.specs.declared.refusal.Refusal.{Refusal}
 use Rattle.bits.specs.Refusals.{refusal_number, by_slot}
 use Rattle.held.specs.Held.{nothing, kept}
 use Rattle.held.specs.declared.Held.{Held}
 use Rattle.slots.specs.declared.Slot.{Slot}
 use Rattle.slots.specs.declared.Slots.{Slots}
-use Rattle.slots.specs.declared.Answer.{Answer}
-use Rattle.slots.specs.declared.Answer.TheVariants.{Done, Refused}
+
+-- the answer of a call that reads nothing
+abbrev pub Answer : Type 0
+Answer = Result (Unit {0}) Refusal
 
 -- the number that a caller gets: 0 for done
 abbrev pub call_number : Answer → ℕ
-call_number Done = 0
-call_number (Refused r) = refusal_number r
+call_number (Ok _) = 0
+call_number (Err r) = refusal_number r
+
+abbrev pub done : Answer
+done = Ok tt
 
 -- 8
 abbrev pub refused : Answer
-refused = Refused by_slot
+refused = Err by_slot
 
 -- ---- a slot
 
@@ -40,17 +46,17 @@ abbrev pub when_open : {A : Type 0} → Slot → A → Slot × A → Slot × A
 when_open x shut acted = if is_open x then acted else (x, shut)
 
 abbrev pub opening : Slot → Slot × Answer
-opening x = (fresh_slot, Done)
+opening x = (fresh_slot, done)
 
 abbrev pub closing : Slot → Slot × Answer
-closing x = when_open x refused (closed_slot, Done)
+closing x = when_open x refused (closed_slot, done)
 
 abbrev pub sequencing : Slot → Slot × Answer
-sequencing x = when_open x refused (fresh_slot, Done)
+sequencing x = when_open x refused (fresh_slot, done)
 
 -- "answers with the five held records, then drops each whose persistence flag is 0"
 abbrev pub picturing : Slot → Slot × (Answer × Held)
-picturing x = when_open x (refused, nothing) (holding x (kept x.held), (Done, x.held))
+picturing x = when_open x (refused, nothing) (holding x (kept x.held), (done, x.held))
 
 -- ---- all slots
 

@@ -1,47 +1,39 @@
-// One slot and its calls; and the eight, as one value: a call takes them and answers with them as it leaves them. Any value of the types
-// is fine, also one that no call made.
+// One slot and its calls; and the eight, each call on one of which leaves the others. Any value of the types is fine, also one that no call
+// made.
 #![tactic(auto)]
 
-ghost use Rattle.std.specs.Prelude.{◌≡◌};
+ghost use Rattle.std.specs.Prelude.{◌≡◌, if◌then◌else◌};
 ghost use Rattle.slots.specs.Slots.{
   call_number,
+  done,
   refused,
   fresh_slot,
   closed_slot,
   is_open,
   holding,
-  when_open,
   opening,
   closing,
   sequencing,
   picturing,
   start,
   slot_at,
-  stay,
   lifted,
 };
-ghost use Rattle.slots.specs.declared.Answer.TheVariants.{Done};
 ghost use Rattle.held.specs.Held.{nothing};
 
 use bits::refusal::Refusal;
-use held::Held;
+use held::{
+    Held, HeldEquirectangular, HeldFramePacking, HeldOrientation, HeldRecord, HeldRegionWise,
+    HeldRotation,
+};
 
-// The answer of a call that reads nothing.
-#[derive(Clone, Copy)]
-pub enum Answer {
-    Done,
-    Refused(Refusal),
-}
-
-impl Answer {
-    // The number that a caller gets.
-    pub fn number(self) -> u32
-        ensures { result ≡ call_number self }
-    {
-        match self {
-            Answer::Done => 0,
-            Answer::Refused(why) => why.number(),
-        }
+// The number that a caller gets of a call that reads nothing.
+pub fn number(answer: Result<(), Refusal>) -> u32
+    ensures { result ≡ call_number answer }
+{
+    match answer {
+        Ok(()) => 0,
+        Err(why) => why.number(),
     }
 }
 
@@ -53,23 +45,9 @@ pub struct Slot {
     pub held: Held,
 }
 
-// An answer, and the slot after the call.
-#[derive(Clone, Copy)]
-pub struct Turned {
-    pub answer: Answer,
-    pub slot: Slot,
-}
-
-// An answer, the five held records as they were at the picture, and the slot after it.
-#[derive(Clone, Copy)]
-pub struct Shown {
-    pub answer: Answer,
-    pub held: Held,
-    pub slot: Slot,
-}
-
 impl Slot {
     // The state that opening and a sequence call leave, and closing but for its mark.
+    #[tactic(auto, unfolding(crate::specs::Slots::fresh_slot))]
     pub fn fresh() -> Slot
         ensures { result ≡ fresh_slot }
     {
@@ -77,6 +55,7 @@ impl Slot {
         Slot { open: 1, held }
     }
 
+    #[tactic(auto, unfolding(crate::specs::Slots::fresh_slot, crate::specs::Slots::closed_slot))]
     pub fn closed() -> Slot
         ensures { result ≡ closed_slot }
     {
@@ -85,12 +64,14 @@ impl Slot {
         slot
     }
 
-    pub fn is_open(self) -> bool
-        ensures { result ≡ is_open self }
+    #[tactic(auto, unfolding(crate::specs::Slots::is_open))]
+    pub fn is_open(&self) -> bool
+        ensures { result ≡ is_open self.now }
     {
         self.open == 1
     }
 
+    #[tactic(auto, unfolding(crate::specs::Slots::holding))]
     pub fn holding(mut self, held: Held) -> Slot
         ensures { result ≡ holding self held }
     {
@@ -98,50 +79,44 @@ impl Slot {
         self
     }
 
-    // What closing and a sequence call have in common: 8 unless the slot is open, which then becomes the given one.
-    fn replaced(self, slot: Slot) -> Turned
-        ensures { (result.slot, result.answer) ≡ when_open self refused (slot, Done) }
+    // 8 unless the slot is open: what closing, a sequence call and a picture have in common.
+    fn if_open(&self) -> Result<(), Refusal>
+        ensures { result ≡ (if is_open self.now then done else refused) }
     {
         if self.is_open() {
-            return Turned {
-                answer: Answer::Done,
-                slot,
-            };
+            return Ok(());
         }
-        Turned {
-            answer: Answer::Refused(Refusal::slot()),
-            slot: self,
-        }
+        Err(Refusal::slot())
     }
 
-    pub fn close(self) -> Turned
-        ensures { (result.slot, result.answer) ≡ closing self }
+    pub fn close(&mut self) -> Result<(), Refusal>
+        ensures { (self.new, result) ≡ closing self.old }
     {
-        self.replaced(Slot::closed())
+        self.if_open()?;
+        *self = Slot::closed();
+        Ok(())
     }
 
-    pub fn sequence(self) -> Turned
-        ensures { (result.slot, result.answer) ≡ sequencing self }
+    pub fn sequence(&mut self) -> Result<(), Refusal>
+        ensures { (self.new, result) ≡ sequencing self.old }
     {
-        self.replaced(Slot::fresh())
+        self.if_open()?;
+        *self = Slot::fresh();
+        Ok(())
     }
 
-    pub fn picture(self) -> Shown
-        ensures { (result.slot, (result.answer, result.held)) ≡ picturing self }
+    // What is shown is the five records as they were; a refusal shows nothing five times. A record that is dropped is dropped where it lies.
+    #[tactic(auto, unfolding(crate::specs::Slots::holding))]
+    pub fn picture(&mut self, shown: &mut Held) -> Result<(), Refusal>
+        ensures { (self.new, (result, shown.new)) ≡ picturing self.old }
     {
-        if self.is_open() {
-            let held = self.held;
-            return Shown {
-                answer: Answer::Done,
-                held,
-                slot: self.holding(held.kept()),
-            };
+        if !self.is_open() {
+            *shown = Held::nothing();
+            return Err(Refusal::slot());
         }
-        Shown {
-            answer: Answer::Refused(Refusal::slot()),
-            held: Held::nothing(),
-            slot: self,
-        }
+        *shown = self.held;
+        self.held.lapse();
+        Ok(())
     }
 }
 
@@ -151,123 +126,64 @@ pub struct Slots {
     pub slots: [Slot; 8],
 }
 
-// An answer, and the slots after the call.
-#[derive(Clone, Copy)]
-pub struct Called {
-    pub answer: Answer,
-    pub slots: Slots,
-}
-
-// An answer, the five held records as they were at the picture, and the slots after it.
-#[derive(Clone, Copy)]
-pub struct Pictured {
-    pub answer: Answer,
-    pub held: Held,
-    pub slots: Slots,
-}
-
 impl Slots {
+    #[tactic(auto, unfolding(crate::specs::Slots::start))]
     pub fn start() -> Slots
         ensures { result ≡ start }
     {
-        let one = Slot::closed();
-        let slots = [one; 8];
-        Slots { slots }
+        Slots {
+            slots: [Slot::closed(); 8],
+        }
     }
 
     // Slot n, and a closed one past the eighth.
-    pub fn slot(self, n: u64) -> Slot
-        ensures { result ≡ slot_at self n }
+    pub fn slot(&self, n: u64) -> Slot
+        ensures { result ≡ slot_at self.now n }
     {
-        if 8 <= n {
-            return Slot::closed();
-        }
-        let place = n as usize;
-        self.slots[place]
-    }
-
-    // 8: there is no such slot.
-    fn missing(self) -> Called
-        ensures { (result.slots, result.answer) ≡ stay self }
-    {
-        Called {
-            answer: Answer::Refused(Refusal::slot()),
-            slots: self,
+        match self.slots.get(n as usize) {
+            Some(slot) => *slot,
+            None => Slot::closed(),
         }
     }
 
-    pub fn open(mut self, n: u64) -> Called
-        ensures { (result.slots, result.answer) ≡ lifted opening refused self n }
+    pub fn open(&mut self, n: u64) -> Result<(), Refusal>
+        ensures { (self.new, result) ≡ lifted opening refused self.old n }
     {
         if 8 <= n {
-            return self.missing();
+            return Err(Refusal::slot());
         }
-        let at = n as usize;
-        self.slots[at] = Slot::fresh();
-        Called {
-            answer: Answer::Done,
-            slots: self,
-        }
+        self.slots[n as usize] = Slot::fresh();
+        Ok(())
     }
 
-    pub fn close(mut self, n: u64) -> Called
-        ensures { (result.slots, result.answer) ≡ lifted closing refused self n }
+    pub fn close(&mut self, n: u64) -> Result<(), Refusal>
+        ensures { (self.new, result) ≡ lifted closing refused self.old n }
     {
         if 8 <= n {
-            return self.missing();
+            return Err(Refusal::slot());
         }
-        let at = n as usize;
-        let here = self.slots[at];
-        let closed = here.close();
-        let answer = closed.answer;
-        let left = closed.slot;
-        self.slots[at] = left;
-        Called {
-            answer,
-            slots: self,
-        }
+        let slot = &mut self.slots[n as usize];
+        slot.close()
     }
 
-    pub fn sequence(mut self, n: u64) -> Called
-        ensures { (result.slots, result.answer) ≡ lifted sequencing refused self n }
+    pub fn sequence(&mut self, n: u64) -> Result<(), Refusal>
+        ensures { (self.new, result) ≡ lifted sequencing refused self.old n }
     {
         if 8 <= n {
-            return self.missing();
+            return Err(Refusal::slot());
         }
-        let at = n as usize;
-        let here = self.slots[at];
-        let cleared = here.sequence();
-        let answer = cleared.answer;
-        let left = cleared.slot;
-        self.slots[at] = left;
-        Called {
-            answer,
-            slots: self,
-        }
+        let slot = &mut self.slots[n as usize];
+        slot.sequence()
     }
 
-    pub fn picture(mut self, n: u64) -> Pictured
-        ensures { (result.slots, (result.answer, result.held)) ≡ lifted picturing (refused, nothing) self n }
+    pub fn picture(&mut self, n: u64, shown: &mut Held) -> Result<(), Refusal>
+        ensures { (self.new, (result, shown.new)) ≡ lifted picturing (refused, nothing) self.old n }
     {
         if 8 <= n {
-            let none = Held::nothing();
-            return Pictured {
-                answer: Answer::Refused(Refusal::slot()),
-                held: none,
-                slots: self,
-            };
+            *shown = Held::nothing();
+            return Err(Refusal::slot());
         }
-        let at = n as usize;
-        let here = self.slots[at];
-        let shown = here.picture();
-        let answer = shown.answer;
-        let held = shown.held;
-        let left = shown.slot;
-        self.slots[at] = left;
-        Pictured {
-            answer,
-            held,
-            slots: self,
-        }
+        let slot = &mut self.slots[n as usize];
+        slot.picture(shown)
     }
 }

@@ -1,46 +1,34 @@
--- Where a character is found from a place on.
+-- Where a character is found: what a search of a list answers, and how far that lies from the place from which the list was cut.
 -- Assumes nothing.
-use Prim.Native.Nat.{ℕ, suc, ◌+◌, ◌<◌, ◌≤◌}
-use native.Mathlib.Numerals.{add-one}
-use native.Mathlib.Omega.{arith}
-use mathlib.Core.Path.{◌≡◌, refl, ap, ◌∙◌}
-use mathlib.Core.List.{List, [], ◌∷◌}
-use borrow.Author.Tests.{eq-eqb, ne_eqb}
-use lib.ListN.{length, get_or, drop_of_length-le}
-use lib.Seq.{drop-cons, take-length}
-use Rattle.words.specs.Place.{index_of, slice}
+use Rattle.std.proofs.Common.{ℕ, suc, ◌+◌, ◌<◌, ◌≤◌, ◌≡◌, ◌∙◌, List, [], ◌∷◌, length, get_or, cond, eqb, Bool, true, false, refl, arith, Option, Some, None, MatchOption}
+use Rattle.std.specs.Prelude.{if◌then◌else◌}
+use Rattle.std.proofs.lemmas.Bool.{false_from_ne_true}
+use Rattle.std.proofs.lemmas.List.Recursion.{is_position_or_len}
+use Rattle.std.proofs.lemmas.List.Sums.{position_or_len_is}
+use Rattle.memchr.specs.Find.{IsFirstByte, is_byte}
+use Rattle.words.specs.Place.{index_of}
 
-abbrev pub found : ℕ → List ℕ → ℕ → ℕ
-found b s i = i + index_of b (slice i (length s) s)
+step : (t : Bool) (n : ℕ) → (if t then 0 else suc n) ≡ cond t 0 (1 + n)
+step true n = refl
+step false n = omega arith
 
-same : (b x : ℕ) (l : List ℕ) → x ≡ b → index_of b (x ∷ l) ≡ 0
+nothing : (b : ℕ) → index_of b [] ≡ 0
 unfolding index_of
-same b x l e = rw (eq-eqb x b e)
+nothing b = refl
 
-other : (b x : ℕ) (l : List ℕ) → (x ≡ b → ⊥) → index_of b (x ∷ l) ≡ suc (index_of b l)
+onward : (b x : ℕ) (xs : List ℕ) → index_of b (x ∷ xs) ≡ cond (eqb x b) 0 (1 + index_of b xs)
 unfolding index_of
-other b x l n = rw (ne_eqb x b n)
+onward b x xs = step (eqb x b) (index_of b xs)
 
-module _ (b : ℕ) (s : List ℕ) (i : ℕ) (h : i < length s) where
-  same_at : get_or s i 0 ≡ b → index_of b (slice i (length s) s) ≡ 0
-  same_at e = rw (take-length s, drop-cons s i 0 h) (same b _ _ e)
+at_first : (b : ℕ) (l : List ℕ) (i : ℕ) → i ≤ length l → ((k : ℕ) → k < i → eqb (get_or l k 0) b ≡ false) → (i < length l → eqb (get_or l i 0) b ≡ true) → index_of b l ≡ i
+at_first b l i h before here =
+    is_position_or_len (index_of b) (λ x. eqb x b) (nothing b) (onward b) l ∙ position_or_len_is (λ x. eqb x b) l i 0 h before here
 
-  other_at : (get_or s i 0 ≡ b → ⊥) → index_of b (slice i (length s) s) ≡ suc (index_of b (slice (suc i) (length s) s))
-  other_at n = rw (take-length s, drop-cons s i 0 h) (other b _ _ n)
-
-  pub found_here : get_or s i 0 ≡ b → found b s i ≡ i
-  found_here e = omega (arith, same_at e)
-
-  -- j is the place after i
-  pub found-later : (j : ℕ) → j ≡ i + 1 → (get_or s i 0 ≡ b → ⊥) → found b s j ≡ found b s i
-  found-later j e n = rw (e, add-one) (omega (arith, other_at n))
-
-none : (b : ℕ) → index_of b [] ≡ 0
-unfolding index_of
-none b = refl
-
--- past the end nothing is found
-pub found-over : (b : ℕ) (s : List ℕ) (i : ℕ) → length s ≤ i → found b s i ≡ i
-found-over b s i h =
-    let e : index_of b (slice i (length s) s) ≡ 0 = rw take-length (ap (index_of b) (drop_of_length-le s h) ∙ none b) in
-    omega (arith, e)
+-- a search of the list answers r, and n is the place that this comes to, as far past `from` as it says; the list's end where b is not there
+pub found : (b from n : ℕ) (l : List ℕ) (r : Option ℕ) → IsFirstByte (is_byte b) l r → MatchOption r (n ≡ from + length l) (λ k. n ≡ from + k) → n ≡ from + index_of b l
+found b from n l None h e =
+    let i = at_first b l (length l) (omega arith) (λ k lt. false_from_ne_true _ (h k (omega arith) lt)) (λ lt. absurd (omega arith)) in
+    omega (arith, e, i)
+found b from n l (Some k) h e =
+    let i = at_first b l k (omega (arith, h.0.high)) (λ j lt. false_from_ne_true _ (h.0.before j (omega arith) lt)) (λ lt. h.1) in
+    omega (arith, e, i)

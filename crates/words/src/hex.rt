@@ -1,25 +1,11 @@
 // Bytes in hex.
-ghost use Rattle.std.specs.Prelude.{◌≡◌, ◌<◌, length, drop};
+ghost use Rattle.std.specs.Prelude.{◌≡◌, ◌<◌, length, drop, IfSome};
 ghost use Rattle.lent.specs.Lent.{left};
-ghost use Rattle.words.specs.Hex.{digit_of, lone_of, pair_of, zero_x, marked, spelling, into};
+ghost use Rattle.words.specs.Hex.{digit_of, lone_of, pair_of, marked, spelling, into};
 
-// What a character spells: a digit's value, or 16 where it is none.
-fn digit(b: u8) -> u8
-    ensures value { result ≡ digit_of b }
-    ensures upper_bound { result < 17 }
-{
-    match b {
-        b'0'..=b'9' => b - b'0',
-        b'A'..=b'F' => b - b'A' + 10,
-        b'a'..=b'f' => b - b'a' + 10,
-        _ => 16,
-    }
-}
-
-#[derive(Clone, Copy)]
-pub enum Hex {
-    // How many bytes.
-    Bytes(usize),
+// Why a text spells no bytes.
+#[derive(Clone, Copy, Debug, PartialEq, Eq)]
+pub enum HexError {
     // A digit without its second.
     Odd,
     // A character that is no hex digit, and its place.
@@ -28,71 +14,62 @@ pub enum Hex {
     Long,
 }
 
-#[derive(Clone, Copy)]
-enum Paired {
-    Byte(u8),
-    Wrong(Hex),
+// A digit's value.
+#[tactic(auto, unfolding(crate::specs::Hex::digit_of))]
+fn digit(b: u8) -> Option<u8>
+    ensures value { result ≡ digit_of b }
+    ensures upper_bound { IfSome result (λ d. d < 16) }
+{
+    match b {
+        b'0'..=b'9' => Some(b - b'0'),
+        b'A'..=b'F' => Some(b - b'A' + 10),
+        b'a'..=b'f' => Some(b - b'a' + 10),
+        _ => None,
+    }
 }
 
 // What is wrong with a, at i, which no second digit follows.
-fn lone(i: usize, a: u8) -> Hex
+#[tactic(auto, unfolding(crate::specs::Hex::lone_of, crate::specs::Hex::unpaired))]
+fn lone(i: usize, a: u8) -> HexError
     ensures { result ≡ lone_of i a }
 {
-    if digit(a) == 16 {
-        return Hex::Foreign(i);
+    match digit(a) {
+        Some(_) => HexError::Odd,
+        None => HexError::Foreign(i),
     }
-    Hex::Odd
 }
 
 // The byte whose digits are a, at i, and b after it.
-fn pair(i: usize, a: u8, b: u8) -> Paired
+#[tactic(auto, unfolding(crate::specs::Hex::pair_of, crate::specs::Hex::byte_of))]
+fn pair(i: usize, a: u8, b: u8) -> Result<u8, HexError>
     requires { i < 18446744073709551615 }
     ensures { result ≡ pair_of i a b }
 {
     if b == b' ' {
-        return Paired::Wrong(lone(i, a));
+        return Err(lone(i, a));
     }
-    let high = digit(a);
-    if high == 16 {
-        return Paired::Wrong(Hex::Foreign(i));
-    }
-    let low = digit(b);
-    if low == 16 {
-        return Paired::Wrong(Hex::Foreign(i + 1));
-    }
-    Paired::Byte(high * 16 + low)
+    let high = digit(a).ok_or(HexError::Foreign(i))?;
+    let low = digit(b).ok_or(HexError::Foreign(i + 1))?;
+    Ok(high * 16 + low)
 }
 
-// Whether a and b are `0x` or `0X`.
-fn zero_x(a: u8, b: u8) -> bool
-    ensures { result ≡ zero_x a b }
+// How many characters `0x` and `0X` have.
+const MARK: usize = 2;
+
+// Whether a text starts with `0x` or `0X`, and something else than a space follows.
+#[tactic(auto, unfolding(crate::specs::Hex::marked))]
+fn is_marked(s: &[u8]) -> bool
+    ensures { result ≡ marked s.now }
 {
-    if a != b'0' {
-        return false;
-    }
-    match b {
-        b'x' => true,
-        b'X' => true,
+    match s {
+        [b'0', b'x' | b'X', next, ..] => *next != b' ',
         _ => false,
     }
 }
 
-// Whether `0x` or `0X` stands at i, and something else than a space after it.
-fn is_marked(s: &[u8], i: usize) -> bool
-    requires { i < length s.now }
-    ensures { result ≡ marked (drop i s.now) }
-{
-    if s.len() - i < 3 {
-        return false;
-    }
-    if zero_x(s[i], s[i + 1]) {
-        return s[i + 2] != b' ';
-    }
-    false
-}
-
 // The bytes that a text spells; there may be spaces between them, and `0x` before each.
-pub fn bytes(s: &[u8], out: &mut [u8]) -> Hex
+#[tactic(auto, using(crate::proofs::Spellings::steps))]
+pub fn bytes(s: &[u8], out: &mut [u8]) -> Result<usize, HexError>
     ensures { left result out.new ≡ into out.old (spelling 0 0 s.now) }
 {
     let mut i = 0;
@@ -100,27 +77,19 @@ pub fn bytes(s: &[u8], out: &mut [u8]) -> Hex
     while i < s.len() {
         if s[i] == b' ' {
             i += 1;
+        } else if s.len() - i < 2 {
+            return Err(lone(i, s[i]));
+        } else if is_marked(&s[i..]) {
+            i += MARK;
         } else {
-            let next = i + 1;
-            if s.len() <= next {
-                return lone(i, s[i]);
+            let b = pair(i, s[i], s[i + 1])?;
+            if out.len() <= n {
+                return Err(HexError::Long);
             }
-            if is_marked(s, i) {
-                i += 2;
-            } else {
-                match pair(i, s[i], s[next]) {
-                    Paired::Wrong(e) => return e,
-                    Paired::Byte(b) => {
-                        if out.len() <= n {
-                            return Hex::Long;
-                        }
-                        out[n] = b;
-                        n += 1;
-                        i += 2;
-                    }
-                }
-            }
+            out[n] = b;
+            n += 1;
+            i += 2;
         }
     }
-    Hex::Bytes(n)
+    Ok(n)
 }

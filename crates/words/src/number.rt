@@ -2,9 +2,9 @@
 ghost use Rattle.std.specs.Prelude.{◌≡◌};
 ghost use Rattle.words.specs.Number.{with_digit, number_of};
 
-#[derive(Clone, Copy)]
-pub enum Spelled {
-    Value(u64),
+// Why a text is no number.
+#[derive(Clone, Copy, Debug, PartialEq, Eq)]
+pub enum NumberError {
     // There is nothing.
     Empty,
     // There is a character that is no digit.
@@ -14,39 +14,27 @@ pub enum Spelled {
 }
 
 // The number with one digit more.
-fn with_digit(v: u64, b: u8) -> Spelled
+fn with_digit(v: u64, b: u8) -> Result<u64, NumberError>
     ensures { result ≡ with_digit v b }
 {
-    if b < b'0' {
-        return Spelled::Foreign;
+    if !b.is_ascii_digit() {
+        return Err(NumberError::Foreign);
     }
-    if b'9' < b {
-        return Spelled::Foreign;
-    }
-    let d = (b - b'0') as u64;
-    if (18446744073709551615 - d) / 10 < v {
-        return Spelled::Large;
-    }
-    Spelled::Value(v * 10 + d)
+    let tens = v.checked_mul(10).ok_or(NumberError::Large)?;
+    tens.checked_add(u64::from(b - b'0'))
+        .ok_or(NumberError::Large)
 }
 
-pub fn number(s: &[u8]) -> Spelled
+#[tactic(auto, using(crate::proofs::Digits::steps), unfolding(crate::specs::Number::onward))]
+pub fn number(s: &[u8]) -> Result<u64, NumberError>
     ensures { result ≡ number_of s.now }
 {
-    if s.len() == 0 {
-        return Spelled::Empty;
+    if s.is_empty() {
+        return Err(NumberError::Empty);
     }
-    let mut v: u64 = 0;
-    let mut i = 0;
-    while i < s.len() {
-        let r = with_digit(v, s[i]);
-        match r {
-            Spelled::Value(next) => v = next,
-            Spelled::Empty => return Spelled::Empty,
-            Spelled::Foreign => return Spelled::Foreign,
-            Spelled::Large => return Spelled::Large,
-        }
-        i += 1;
+    let mut v = 0;
+    for b in s {
+        v = with_digit(v, *b)?;
     }
-    Spelled::Value(v)
+    Ok(v)
 }

@@ -14,6 +14,5 @@ on : (here x : Slot) (kind size : ℕ) (bytes : List ℕ) (answer : Answer) (lef
 unfolding held_after
 on here x kind size bytes answer left o a k h = rw (o, h, k, a)
 
-pub returns-then-is_open : goal.returns-then-is_open
-returns-then-is_open c =
-    on c.args.here _ _ _ _ _ _ (sym c.is_open.ensures ∙ c.if-is_open.true) c.read-answer.ensures c.held_by-left.ensures c.holding.ensures
+pub returns : goal.returns
+returns c = on c.args.here.now _ _ _ _ _ _ (sym c.is_open.ensures ∙ c.if-not-is_open.false) c.read-answer.ensures c.held_by-left.ensures c.holding.ensures

@@ -10,15 +10,15 @@ use Rattle.record_row.proofs.handing.of_kind.Goals as goal
 
 pub returns-in-RegionWise : goal.returns-in-RegionWise
 returns-in-RegionWise c =
-    rw c.in-RegionWise.is (region-wise-wrote _ (reading_of RegionWise c.args.s.now) c.region_wise.ensures c.hand_region_wise.ensures)
+    rw c.in-RegionWise.is (region-wise-wrote _ (reading_of RegionWise c.args.s.now) c.region_wise-a.ensures c.hand.ensures)
 
 pub returns-in-Depth : goal.returns-in-Depth
 returns-in-Depth c =
-    rw c.in-Depth.is (depth-wrote _ (reading_of Depth c.args.s.now) c.depth.ensures c.hand_depth.ensures)
+    rw c.in-Depth.is (depth-wrote _ (reading_of Depth c.args.s.now) c.depth-a.ensures c.hand-in-Depth.ensures)
 
 pub returns-in-Unregistered : goal.returns-in-Unregistered
 returns-in-Unregistered c =
-    rw c.in-Unregistered.is (unregistered-wrote _ (reading_of Unregistered c.args.s.now) c.unregistered.ensures c.hand_unregistered.ensures)
+    rw c.in-Unregistered.is (unregistered-wrote _ (reading_of Unregistered c.args.s.now) c.unregistered-a.ensures c.hand-in-Unregistered.ensures)
 
 pub returns-in_default : goal.returns-in_default
 returns-in_default c =

@@ -20,4 +20,5 @@ of_kind-requires c = rw (c.front.ensures, length-take) (omega (arith, (payload-f
 
 pub returns-in-Payload : goal.returns-in-Payload
 returns-in-Payload c =
-    by_answer _ (rw c.front.ensures (sym (by-entry _ _ _ (sym c.in-Payload.ensures)))) c.of_kind.ensures
+    rw c.number-in-Payload.ensures
+    (by_answer _ (rw c.front.ensures (sym (by-entry _ _ _ (sym c.in-Payload.ensures)))) c.of_kind.ensures)

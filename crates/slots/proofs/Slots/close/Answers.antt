@@ -1,14 +1,11 @@
 -- the slot's own call, where there is such a slot
-use Rattle.std.proofs.Common.{sym, ◌∙◌, arith}
+use Rattle.std.proofs.Common.{sym, arith}
 use Rattle.slots.specs.Slots.{refused, closing}
-use Rattle.slots.proofs.Entries.{eight}
 use Rattle.slots.proofs.Laws.{lifted-past, lifted-stored}
 use Rattle.slots.proofs.Slots.close.Goals as goal
 
 pub returns-then-n-ge8 : goal.returns-then-n-ge8
-returns-then-n-ge8 c = c.missing.ensures ∙ sym (lifted-past closing refused c.args.self c.args.n (omega arith))
+returns-then-n-ge8 c = rw c.slot.ensures (sym (lifted-past closing refused c.args.self.now c.args.n (omega arith)))
 
 pub returns : goal.returns
-returns c =
-    let s = c.args.self in
-    lifted-stored closing refused s c.args.n _ _ (eight s _ c.well_formed.0) (omega arith) c.close-closed.ensures
+returns c = lifted-stored closing refused c.args.self.now c.args.n _ _ (omega arith) (omega arith) c.close.ensures

@@ -5,9 +5,9 @@ use Rattle.words.specs.Place.{index_of, slice, run, trimmed_of, uncommented, led
 use Rattle.words.proofs.place.content.Goals as goal
 
 -- the part before a comment
-text_of : (s : List ℕ) (e : ℕ) → e ≡ 0 + index_of 35 (slice 0 (length s) s) → take (e - 0) s ≡ uncommented s
+text_of : (s : List ℕ) (e : ℕ) → e ≡ 0 + index_of 35 (slice 0 (length s) s) → take e s ≡ uncommented s
 text_of s e p =
-    let n : e - 0 ≡ index_of 35 s = omega (arith, rw (take-length s) at p) in
+    let n : e ≡ index_of 35 s = omega (arith, rw (take-length s) at p) in
     ap (λ (k : ℕ). take k s) n
 
 -- the part of it from f on
@@ -17,14 +17,12 @@ rest-of s f p =
     let l : length (drop f s) ≤ length s - f = omega (arith, length-drop f s) in
     take_all (length s - f) (drop f s) l ∙ ap (λ (k : ℕ). drop k s) n
 
-front_of : (s : List ℕ) (t : ℕ) → t ≡ trimmed_of s → take (t - 0) s ≡ ended s
-front_of s t p =
-    let n : t - 0 ≡ trimmed_of s = omega arith in
-    ap (λ (k : ℕ). take k s) n
+front_of : (s : List ℕ) (t : ℕ) → t ≡ trimmed_of s → take t s ≡ ended s
+front_of s t p = ap (λ (k : ℕ). take k s) p
 
 pub returns : goal.returns
 unfolding content_of
 returns c =
-    front_of _ _ c.trimmed-to.ensures
-    ∙ ap ended (rest-of _ _ c.skip-from.ensures.value)
-    ∙ ap (λ (l : List ℕ). ended (led l)) (text_of _ _ c.find-comment.ensures.value)
+    front_of _ _ c.trimmed.ensures
+    ∙ ap ended (rest-of _ _ c.skip.ensures.value)
+    ∙ ap (λ (l : List ℕ). ended (led l)) (text_of _ _ c.find.ensures.value)

@@ -1,52 +1,16 @@
--- what stands past i is still to be looked at
-use Rattle.std.proofs.Common.{ℕ, ◌≡◌, ◌+◌, ◌≤◌, ◌∙◌, List, length, get_or, arith}
-use Rattle.words.proofs.Found.{found, found_here, found-later}
+-- the search goes over what stands from the place on
+use Rattle.std.proofs.Common.{rules, arith, ◌≡◌, ◌+◌, ◌-◌, length, length-drop, drop, take, MatchOption}
+use lib.Seq.{take_all, take-length}
+use Rattle.memchr.specs.Find.{IsFirstByte, is_byte}
+use Rattle.words.proofs.Found.{found}
 use Rattle.words.proofs.place.find.Goals as goal
 
--- the four that a turn looks at
-module _ (b : ℕ) (s : List ℕ) (i : ℕ) (h : i + 4 ≤ length s) where
-  abbrev Other : ℕ → Type 0
-  Other k = get_or s (i + k) 0 ≡ b → ⊥
-
-  first : (get_or s i 0 ≡ b → ⊥) → found b s (i + 1) ≡ found b s i
-  first n = found-later b s i (omega arith) (i + 1) (omega arith) n
-
-  second : (get_or s i 0 ≡ b → ⊥) → Other 1 → found b s (i + 2) ≡ found b s i
-  second n o = found-later b s (i + 1) (omega arith) (i + 2) (omega arith) o ∙ first n
-
-  third : (get_or s i 0 ≡ b → ⊥) → Other 1 → Other 2 → found b s (i + 3) ≡ found b s i
-  third n o p = found-later b s (i + 2) (omega arith) (i + 3) (omega arith) p ∙ second n o
-
-  fourth : (get_or s i 0 ≡ b → ⊥) → Other 1 → Other 2 → Other 3 → found b s (i + 4) ≡ found b s i
-  fourth n o p q = found-later b s (i + 3) (omega arith) (i + 4) (omega arith) q ∙ third n o p
-
-pub returns-then-s-i-clause-value : goal.returns-then-s-i-clause-value
-returns-then-s-i-clause-value c =
-    omega (arith, found_here c.args.b c.args.s.now c.loop-i.i (omega arith) (omega arith))
-
-pub returns-then-s-i-2-clause-value : goal.returns-then-s-i-2-clause-value
-returns-then-s-i-2-clause-value c =
-    let b = c.args.b in
-    let s = c.args.s.now in
-    let i = c.loop-i.i in
-    omega (arith, first b s i (omega arith) c.if-s-i.false, found_here b s (i + 1) (omega arith) (omega arith))
-
-pub returns-then-s-i-3-clause-value : goal.returns-then-s-i-3-clause-value
-returns-then-s-i-3-clause-value c =
-    let b = c.args.b in
-    let s = c.args.s.now in
-    let i = c.loop-i.i in
-    omega (arith, second b s i (omega arith) c.if-s-i.false c.if-s-i-2.false, found_here b s (i + 2) (omega arith) (omega arith))
-
-pub returns-then-s-i-4-clause-value : goal.returns-then-s-i-4-clause-value
-returns-then-s-i-4-clause-value c =
-    let b = c.args.b in
-    let s = c.args.s.now in
-    let i = c.loop-i.i in
-    omega
-    (arith, third b s i (omega arith) c.if-s-i.false c.if-s-i-2.false c.if-s-i-3.false, found_here b s (i + 3) (omega arith) (omega arith))
-
-pub loop-i-preserved : goal.loop-i-preserved
-loop-i-preserved c =
-    let d = fourth c.args.b c.args.s.now c.loop-i.i (omega arith) c.if-s-i.false c.if-s-i-2.false c.if-s-i-3.false c.if-s-i-4.false in
-    (omega arith, omega arith, d ∙ c.loop-i.invariant.2)
+pub returns-clause-value : goal.returns-clause-value
+returns-clause-value c =
+    let from = c.args.from in
+    let l = drop from c.args.s.now in
+    let total : from + length l ≡ length c.args.s.now = omega (arith, length-drop from c.args.s.now) in
+    let whole : take (length c.args.s.now - from) l ≡ l = take_all _ l (omega arith) in
+    let first : IsFirstByte (is_byte c.args.b) (take (length c.args.s.now - from) l) c.memchr.result = c.memchr.ensures in
+    let h : MatchOption c.memchr.result (c.map_or.result ≡ length c.args.s.now) (λ k. c.map_or.result ≡ from + k) = search rules in
+    rw take-length (found c.args.b from c.map_or.result l c.memchr.result (rw whole at first) (rw total h))

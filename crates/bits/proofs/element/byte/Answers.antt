@@ -1,7 +1,0 @@
--- what `u` read fits, since n is at most 8
-use Rattle.std.proofs.Common.{sym}
-use Rattle.bits.proofs.ElementLaws.{u-fits-in}
-use Rattle.bits.proofs.element.byte.Goals as goal
-
-pub overflow_cast-result : goal.overflow_cast-result
-overflow_cast-result c = record { fits = u-fits-in _ _ _ 8 c.requires.1 (sym c.in-Value.ensures) }

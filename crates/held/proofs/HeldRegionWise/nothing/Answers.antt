@@ -1,6 +1,0 @@
-use Rattle.held.specs.Held.{none_of}
-use Rattle.held.proofs.HeldRegionWise.nothing.Goals as goal
-
-pub returns : goal.returns
-unfolding none_of
-returns c = rw c.zero-value.ensures
