@@ -2,6 +2,8 @@
 -- Assumes nothing.
 use mathlib.Core.Path.{sym, ◌∙◌}
 use Rattle.bits.proofs.Determined.{Determines}
+use Rattle.answers.proofs.kind.KindTryFromU64.try_from.Kinds as named-kinds
+use Rattle.answers.proofs.kind.KindTryFromU64.try_from.Reads as named-reads
 use Rattle.answers.proofs.Outcome.number.Kinds as number-kinds
 use Rattle.answers.proofs.Outcome.number.Reads as number-reads
 use Rattle.answers.proofs.Beside.nothing.Kinds as nothing-kinds
@@ -20,6 +22,9 @@ use Rattle.answers.proofs.Answer.plain.Kinds as plain-kinds
 use Rattle.answers.proofs.Answer.plain.Reads as plain-reads
 use Rattle.answers.proofs.Answer.refused.Kinds as refused-kinds
 use Rattle.answers.proofs.Answer.refused.Reads as refused-reads
+
+pub named-determined : Determines 0 named-kinds.ps named-kinds.r named-reads.Post
+named-determined κs a x y s t p q = p ∙ sym q
 
 pub number-determined : Determines 0 number-kinds.ps number-kinds.r number-reads.Post
 number-determined κs a x y s t p q = p ∙ sym q

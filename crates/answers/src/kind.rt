@@ -42,7 +42,7 @@ impl TryFrom<u64> for Kind {
             177 => Ok(Kind::Depth),
             4 => Ok(Kind::Registered),
             5 => Ok(Kind::Unregistered),
-            _ => Err(Refusal::Kind),
+            _ => Err(Refusal::kind()),
         }
     }
 }

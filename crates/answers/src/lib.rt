@@ -102,8 +102,8 @@ impl Brief {
         ensures { result ≡ brief_of (finished kind outcome message end) }
     {
         match end {
-            Ok(e) => Brief::plain(outcome, message, e),
-            Err(why) => Brief::refused(kind, why),
+            Ok(e) => return Brief::plain(outcome, message, e),
+            Err(why) => return Brief::refused(kind, why),
         }
     }
 

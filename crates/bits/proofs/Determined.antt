@@ -1,5 +1,5 @@
 -- The contract of each public function determines its result: any two results that meet it, at the same arguments, are equal.
--- The public functions here are the elements, the tail, the refusals that are made and their numbers.
+-- The public functions here are the elements, the numbers of a record's types, the tail, the refusals that are made and their numbers.
 -- `Post` is a function's `ensures` as the check reads it off the source, so no contract is written a second time here.
 -- Assumes nothing.
 use Prim.Native.Nat.{ℕ, ◌-◌}
@@ -19,11 +19,24 @@ use Rattle.std.specs.declared.clone.Clone
 use denote.RattleType.{RattleType}
 use denote.Param.Laws.{Laws, IsCopy}
 use mir.Syntax.{Dict}
+use Rattle.bits.specs.contracts.unsigned.U8Unsigned.TheImpl as u8-impl
+use Rattle.std.specs.contracts.prelude.U8Clone.TheImpl as u8-clone
+use Rattle.bits.specs.contracts.unsigned.U16Unsigned.TheImpl as u16-impl
+use Rattle.std.specs.contracts.prelude.U16Clone.TheImpl as u16-clone
+use Rattle.bits.specs.contracts.unsigned.U32Unsigned.TheImpl as u32-impl
+use Rattle.std.specs.contracts.prelude.U32Clone.TheImpl as u32-clone
 use Rattle.bits.specs.declared.cursor.Cursor.{Cursor}
 use Rattle.bits.specs.declared.refusal.Refusal.{Refusal}
 use Rattle.bits.specs.declared.refusal.Refusal.TheVariants.{Kind, Size, Short, Zeros, Rule, Regions, Tail, Slot, Table, Rows}
+use Rattle.bits.proofs.Widths.{u8_type, u8_laws, u8_copied, u16_type, u16_laws, u16_copied, u32_type, u32_laws, u32_copied}
 use Rattle.bits.proofs.element.u.Kinds as u-kinds
 use Rattle.bits.proofs.element.u.Reads as u-reads
+use Rattle.bits.proofs.unsigned.U8Unsigned.of.Kinds as u8-of-kinds
+use Rattle.bits.proofs.unsigned.U8Unsigned.of.Reads as u8-of-reads
+use Rattle.bits.proofs.unsigned.U16Unsigned.of.Kinds as u16-of-kinds
+use Rattle.bits.proofs.unsigned.U16Unsigned.of.Reads as u16-of-reads
+use Rattle.bits.proofs.unsigned.U32Unsigned.of.Kinds as u32-of-kinds
+use Rattle.bits.proofs.unsigned.U32Unsigned.of.Reads as u32-of-reads
 use Rattle.bits.proofs.element.ue.Kinds as ue-kinds
 use Rattle.bits.proofs.element.ue.Reads as ue-reads
 use Rattle.bits.proofs.element.signed.Kinds as signed-kinds
@@ -90,6 +103,9 @@ had (Err r) = refl
 pub told : {A : Type 0} (r t : Result (A × Cursor) Refusal) → out_of r ≡ out_of t → r ≡ t
 told = told-by out_of answer_of had
 
+pub read_told : (r t : Result (ℕ × Cursor) Refusal) → out_of r ≡ out_of t → r ≡ t
+read_told = told
+
 -- and where the numbers that were read tell the values apart
 pub told-by-number : {A : Type 0} (number : A → ℕ) → ((a b : A) → number a ≡ number b → a ≡ b) → (r t : Result (A × Cursor) Refusal) → out_by number r ≡ out_by number t → r ≡ t
 told-by-number number tells (Ok x) (Ok y) e =
@@ -127,6 +143,25 @@ module _ (T : RattleType) (L : Laws T) (C : IsCopy T) (N : Ghosts T.Denot) (N-di
     (tells : (x y : T.Denot) → N.number x ≡ N.number y → x ≡ y) where
   pub u-determined : Determines 2 (u-kinds.ps T L C) (u-kinds.r T L C) (u-reads.Post T L C N N-dict K K-dict)
   u-determined κs a x y s t p q = told-by-number N.number tells x y (p ∙ sym q)
+
+-- at u8, u16 and u32
+pub byte-determined : Determines 2 (u-kinds.ps u8_type u8_laws u8_copied) (u-kinds.r u8_type u8_laws u8_copied) (u-reads.Post u8_type u8_laws u8_copied u8-impl.ghosts u8-impl.dict u8-clone.ghosts u8-clone.dict)
+byte-determined = u-determined u8_type u8_laws u8_copied u8-impl.ghosts u8-impl.dict u8-clone.ghosts u8-clone.dict (λ x y e. e)
+
+pub word-determined : Determines 2 (u-kinds.ps u16_type u16_laws u16_copied) (u-kinds.r u16_type u16_laws u16_copied) (u-reads.Post u16_type u16_laws u16_copied u16-impl.ghosts u16-impl.dict u16-clone.ghosts u16-clone.dict)
+word-determined = u-determined u16_type u16_laws u16_copied u16-impl.ghosts u16-impl.dict u16-clone.ghosts u16-clone.dict (λ x y e. e)
+
+pub u-u32-determined : Determines 2 (u-kinds.ps u32_type u32_laws u32_copied) (u-kinds.r u32_type u32_laws u32_copied) (u-reads.Post u32_type u32_laws u32_copied u32-impl.ghosts u32-impl.dict u32-clone.ghosts u32-clone.dict)
+u-u32-determined = u-determined u32_type u32_laws u32_copied u32-impl.ghosts u32-impl.dict u32-clone.ghosts u32-clone.dict (λ x y e. e)
+
+pub u8-of-determined : Determines 0 u8-of-kinds.ps u8-of-kinds.r u8-of-reads.Post
+u8-of-determined κs a x y s t p q = p ∙ sym q
+
+pub u16-of-determined : Determines 0 u16-of-kinds.ps u16-of-kinds.r u16-of-reads.Post
+u16-of-determined κs a x y s t p q = p ∙ sym q
+
+pub u32-of-determined : Determines 0 u32-of-kinds.ps u32-of-kinds.r u32-of-reads.Post
+u32-of-determined κs a x y s t p q = p ∙ sym q
 
 pub ue-determined : Determines 1 ue-kinds.ps ue-kinds.r ue-reads.Post
 ue-determined κs a x y s t p q = told x y (p ∙ sym q)

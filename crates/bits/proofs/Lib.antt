@@ -6,6 +6,7 @@ pub mod TailLaws
 pub mod IdentifierLaws
 pub mod SignedLaws
 pub mod Reading
+pub mod Widths
 pub mod Determined
 pub mod Numbers
 mod Examples

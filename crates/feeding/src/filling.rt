@@ -193,6 +193,7 @@ pub fn unheld(kind: u64, size: u64, bytes: &[u8]) -> Reply
 }
 
 // Where a payload is taken, the record of its kind becomes that which it fills.
+#[inline(always)]
 fn store<H: HeldRecord>(held: &mut Held, after: Filled<H>) -> Reply
     ensures { (held.new, result) ≡ storing H.kind held.old (filled_as H.as_held after) }
 {

@@ -16,6 +16,9 @@ use Rattle.format.specs.contracts.list.read_list.{F-post}
 use Rattle.format.specs.contracts.list.read_list.F-Fn as Fn
 use Rattle.std.specs.declared.clone.Clone
 use Rattle.bits.specs.declared.unsigned.Unsigned.{Ghosts}
+use Rattle.bits.specs.contracts.unsigned.U32Unsigned.TheImpl as u32-impl
+use Rattle.std.specs.contracts.prelude.U32Clone.TheImpl as u32-clone
+use Rattle.bits.proofs.Widths.{u32_type, u32_laws, u32_copied}
 use Rattle.bits.proofs.Determined.{Determines, told, told-by-number}
 use Rattle.format.proofs.guard.guard_type.Kinds as guard-type-kinds
 use Rattle.format.proofs.guard.guard_type.Reads as guard-type-reads
@@ -31,6 +34,10 @@ module _ (T : RattleType) (L : Laws T) (C : IsCopy T) (N : Ghosts T.Denot) (N-di
     (tells : (x y : T.Denot) → N.number x ≡ N.number y → x ≡ y) where
   pub at-most-determined : Determines 2 (at-most-kinds.ps T L C) (at-most-kinds.r T L C) (at-most-reads.Post T L C N N-dict K K-dict)
   at-most-determined κs a x y s t p q = told-by-number N.number tells x y (p ∙ sym q)
+
+-- at u32
+pub at-most-u32-determined : Determines 2 (at-most-kinds.ps u32_type u32_laws u32_copied) (at-most-kinds.r u32_type u32_laws u32_copied) (at-most-reads.Post u32_type u32_laws u32_copied u32-impl.ghosts u32-impl.dict u32-clone.ghosts u32-clone.dict)
+at-most-u32-determined = at-most-determined u32_type u32_laws u32_copied u32-impl.ghosts u32-impl.dict u32-clone.ghosts u32-clone.dict (λ x y e. e)
 
 -- what `read_list` answers with what it leaves of the lent list, where that is one of zeros and each call of the closure reads f from the bytes s
 module _ (T F : RattleType) (L : Laws T) (M : Laws F) (C : IsCopy T) (K : Clone.Ghosts T.Denot) (K-dict : Dict) (G : Fn.Ghosts T F) (d e g h : Dict)

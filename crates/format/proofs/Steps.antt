@@ -7,7 +7,7 @@ use mathlib.Core.List.{List, [], ◌∷◌, ◌++◌, append_assoc, append-nil}
 use native.Mathlib.Omega.{arith}
 use Rattle.bits.specs.Bits.{from}
 use Rattle.bits.specs.Refusals.{Verdict, fine, against, refusal_of}
-use Rattle.bits.specs.Out.{Out, taken, refused, after, placed}
+use Rattle.bits.specs.Out.{Out, taken, refused, after, placed, refusal_in}
 use Rattle.bits.specs.Elements.{u_at, ue_at, shape_front, shape_at}
 use Rattle.bits.specs.Coding.{Shape, unsigned, exp_golomb}
 use Rattle.bits.specs.declared.refusal.Refusal.{Refusal}
@@ -15,7 +15,7 @@ use Rattle.bits.proofs.BitLaws.{drop-from}
 use Rattle.bits.proofs.ElementLaws.{u-below}
 use Rattle.format.specs.Format.{Element, handed, verdict, Format, done, read, asks, ◌>>=◌, ◌of◌, zeros, all_zero}
 use Rattle.format.specs.Reading.{ruled, judged, element_front, element_at, run, run_at}
-use Rattle.format.specs.Syntax.{when, times}
+use Rattle.format.specs.Syntax.{when_else, when, times}
 
 -- ---- one reading after another
 
@@ -90,6 +90,20 @@ module _ {R A : Type 0} where
       go fine m q = refl
       go (against b) m q = refl
 
+  -- the element was read, and what follows it is left; or it was refused, and so is the whole: o is what reading it came to
+  module _ (e : Element) (g : R → ℕ) (k : ℕ → Format R A) (s : List ℕ) (p : ℕ) where
+    pub step-value : {m q : ℕ} → taken m q ≡ element_at e s p → run_at (read e g k) s p ≡ run_at (k m) s q
+    step-value l = rw (step e g k s p, ← l)
+
+    pub step-refused : {o : Out ℕ} {r t : Refusal} → o ≡ element_at e s p → o ≡ refused r → t ≡ refusal_in o → run_at (read e g k) s p ≡ refused t
+    step-refused l f h = rw (step e g k s p, ← l, h, f)
+
+    pub step-code-value : {c q : ℕ} → taken c q ≡ shape_at e.shape s p → run_at (read e g k) s p ≡ go_on (verdict e c) (run_at (k (handed e c)) s q)
+    step-code-value l = rw (step-code e g k s p, ← l)
+
+    pub step-code-refused : {o : Out ℕ} {r t : Refusal} → o ≡ shape_at e.shape s p → o ≡ refused r → t ≡ refusal_in o → run_at (read e g k) s p ≡ refused t
+    step-code-refused l f h = rw (step-code e g k s p, ← l, h, f)
+
   -- what a record must have to be written is passed over
   pub step-asks : (t : R → Bool) (f : Format R A) (s : List ℕ) (p : ℕ) → run_at (asks t f) s p ≡ run_at f s p
   unfolding run_at run
@@ -101,6 +115,13 @@ module _ {R A : Type 0} where
 
   pub step-no : {t : Bool} (f : Format R A) (s : List ℕ) (p : ℕ) → t ≡ false → run_at (when t f) s p ≡ taken (zeros f) p
   step-no f s p e = rw e (step-asks (all_zero f) (done (zeros f)) s p ∙ step-done R (zeros f) s p)
+
+  -- where something else stands for it
+  pub step_then : {t : Bool} (f : Format R A) (gone : R → Bool) (z : A) (s : List ℕ) (p : ℕ) → t ≡ true → run_at (when_else t f gone z) s p ≡ run_at f s p
+  step_then f gone z s p e = rw e
+
+  pub step-else : {t : Bool} (f : Format R A) (gone : R → Bool) (z : A) (s : List ℕ) (p : ℕ) → t ≡ false → run_at (when_else t f gone z) s p ≡ taken z p
+  step-else f gone z s p e = rw e (step-asks gone (done z) s p ∙ step-done R z s p)
 
 -- ---- a format put together from formats is read in that order
 
@@ -181,6 +202,35 @@ module _ {A : Type 0} (f : Format A A) (s : List ℕ) (n p : ℕ) where
         opened
         ∙ ap (λ o. after o (λ x t. after (run_at (times n left f) s t) (λ ys r. taken (xs ++ (x ∷ ys)) r))) e
         ∙ same_after (run_at (times n left f) s t) _ _ (λ ys r. ap (λ l. taken l r) (sym (append_assoc xs (x ∷ []) ys)))
+
+-- ---- the places of a reader's proof
+
+-- right after a read that came to o: the whole, x, is o and then k
+pub record At {A : Type 0} (B : Type 0) (o : Out A) : Type 0 where
+  pub x : Out B
+  pub k : A → ℕ → Out B
+  pub is : x ≡ after o k
+
+-- the first read
+abbrev pub start : {A B : Type 0} {o o' : Out A} (x : Out B) (k : A → ℕ → Out B) → o ≡ o' → x ≡ after o' k → At B o
+start x k e h = record { x = x; k = k; is = rw e h }
+
+-- the next one, where the last gave a value
+abbrev pub next : {A A' B : Type 0} {o : Out A} {o₂ o' : Out A'} {v : A} {p : ℕ} (a : At B o) (k : A' → ℕ → Out B) → o ≡ taken v p → o₂ ≡ o' → a.k v p ≡ after o' k → At B o₂
+next a k g e h = record { x = a.x; k = k; is = a.is ∙ rw (g, e) h }
+
+-- the last one gave a value: what is left of the whole comes to y
+pub last : {A B : Type 0} {o : Out A} {v : A} {p : ℕ} {y : Out B} (a : At B o) → o ≡ taken v p → a.k v p ≡ y → y ≡ a.x
+last a g e = sym (a.is ∙ rw g e)
+
+-- where the ways with a part and without it meet, with y for it: what follows it is left
+abbrev pub meet : {R A B C D : Type 0} {o : Out D} {v : D} {q : ℕ} (t : Bool) (f : Format R A) (g : A → Format R B) (k : B → Format R C) (s : List ℕ) (p : ℕ)
+    (a : At C o) → o ≡ taken v q → a.k v q ≡ run_at (when t f >>= g >>= k) s p → (y : A) (r : ℕ) → a.x ≡ run_at (g y >>= k) s r → At C (taken y r)
+meet t f g k s p a e h y r l = record { x = a.x; k = λ y r. run_at (g y >>= k) s r; is = l }
+
+-- it was refused, and so is the whole
+pub stop : {A B : Type 0} {o : Out A} {r t : Refusal} (a : At B o) → o ≡ refused r → t ≡ refusal_in o → refused t ≡ a.x
+stop a g f = sym (a.is ∙ rw (f, g))
 
 -- ---- what goals want
 

@@ -1,4 +1,4 @@
--- What the walks of a feed end in: the slots as they are left and the reply are what the run's step leaves and shows.
+-- The slots as a feed leaves them and its reply are what the run's step leaves and shows. No proof takes these: an entry goes by `feeding`'s contract.
 -- Assumes nothing.
 use Prim.Native.Nat.{ℕ, ◌<◌}
 use mathlib.Core.Path.{◌≡◌, ap, sym, ◌∙◌}

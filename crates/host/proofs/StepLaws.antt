@@ -1,5 +1,5 @@
--- The slot calls as C sees them, case by case: there is no such slot, the slot is closed, it stays, or it is replaced. The walks through the
--- entries end in these.
+-- The slot calls as C sees them, case by case: there is no such slot, the slot is closed, it stays, or it is replaced. Of the
+-- entries' proofs the table's takes these; the others go by the contracts of `slots` and `feeding`.
 -- Assumes nothing.
 use Prim.Native.Nat.{ℕ, ◌≤◌, ◌<◌}
 use mathlib.Core.Path.{◌≡◌, refl, sym, ap, ◌∙◌}

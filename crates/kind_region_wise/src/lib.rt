@@ -57,6 +57,7 @@ impl RegionWise {
 }
 
 // How many regions there are: 5 where it is 0, 6 above the limit.
+#[inline(always)]
 #[tactic(auto, using(format::proofs::ReaderLaws::one_judged))]
 fn read_count(s: &[u8], c: Cursor) -> Reading<u8>
     requires { Payload s.now }
@@ -73,6 +74,7 @@ fn read_count(s: &[u8], c: Cursor) -> Reading<u8>
 }
 
 // A size of a picture, of n bits: at least 1.
+#[inline(always)]
 #[tactic(auto, using(format::proofs::ReaderLaws::one_judged))]
 fn read_size<T: Unsigned>(s: &[u8], c: Cursor, n: u32) -> Reading<T>
     requires { Payload s.now × (n ≤ T.room) }

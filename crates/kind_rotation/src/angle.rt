@@ -11,6 +11,7 @@ use bits::read::Reading;
 use bits::refusal::Refusal;
 
 // An angle from `least` to `most`, both included.
+#[inline(always)]
 #[tactic(auto, using(format::proofs::Steps::reading), unfolding(format::specs::Syntax::i32))]
 pub(crate) fn angle(s: &[u8], c: Cursor, least: i32, most: i32) -> Reading<i32>
     requires { Payload s.now }

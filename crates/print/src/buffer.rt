@@ -98,7 +98,7 @@ impl Out {
         self.raw(s.as_bytes());
     }
 
-    pub(crate) fn byte(&mut self, b: u8) {
+    pub fn byte(&mut self, b: u8) {
         self.raw(&[b]);
     }
 }

@@ -9,12 +9,13 @@ use bits::refusal::Refusal;
 use lent::front;
 use messages::brief_of;
 
+#[inline(always)]
 pub fn brief(kind: u64, size: u64, bytes: &[u8]) -> Brief
     ensures { result ≡ brief_of (answer_to kind size bytes.now) }
 {
     match judged(kind, size, bytes.len()) {
-        Entry::Unlisted => Brief::unknown(),
-        Entry::Oversized(k) => Brief::refused(k, Refusal::size()),
-        Entry::Payload(k) => brief_of(k, front(bytes, size as usize)),
+        Entry::Unlisted => return Brief::unknown(),
+        Entry::Oversized(k) => return Brief::refused(k, Refusal::size()),
+        Entry::Payload(k) => return brief_of(k, front(bytes, size as usize)),
     }
 }

@@ -13,8 +13,8 @@ pub fn read(kind: u64, size: u64, bytes: &[u8]) -> Answer
     ensures { result ≡ answer_to kind size bytes.now }
 {
     match judged(kind, size, bytes.len()) {
-        Entry::Unlisted => Answer::of(Brief::unknown(), Beside::nothing()),
-        Entry::Oversized(k) => Answer::refused(k, Refusal::size()),
-        Entry::Payload(k) => of_kind(k, front(bytes, size as usize)),
+        Entry::Unlisted => return Answer::of(Brief::unknown(), Beside::nothing()),
+        Entry::Oversized(k) => return Answer::refused(k, Refusal::size()),
+        Entry::Payload(k) => return of_kind(k, front(bytes, size as usize)),
     }
 }

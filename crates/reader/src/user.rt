@@ -10,6 +10,6 @@ pub fn user_part(kind: u64, size: u64, bytes: &[u8]) -> &[u8]
 {
     match brief(kind, size, bytes).rest {
         Some(start) => &bytes[start..size as usize],
-        None => &[],
+        None => &bytes[..0],
     }
 }

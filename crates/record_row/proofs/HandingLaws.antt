@@ -2,8 +2,10 @@
 -- Assumes nothing.
 use Prim.Native.Nat.{ℕ, ◌≤◌, ◌<◌}
 use mathlib.Core.Path.{◌≡◌, refl, sym, ap, ◌∙◌}
-use mathlib.Core.List.{List, ◌∷◌}
+use mathlib.Core.List.{List, [], ◌∷◌}
 use borrow.Author.Tests.{le-leb, lt-leb}
+use denote.Enum.Declared.{tag_of}
+use types.Run.{OneOf, hit, miss}
 use lib.ListN.{length}
 use lib.Seq.{sets}
 use Rattle.bits.specs.Refusals.{refusal_number}
@@ -12,16 +14,21 @@ use Rattle.format.specs.Whole.{Reading, taken, set_aside, refused}
 use Rattle.kind_region_wise.specs.declared.RegionWise.{RegionWise}
 use Rattle.kind_depth.specs.declared.Depth.{Depth}
 use Rattle.kind_user_data.specs.declared.unregistered.Unregistered.{Unregistered}
+use Rattle.answers.specs.contracts.Outcome.{the_type}
 use Rattle.answers.specs.Answer.{outcome_number, answer_for}
 use Rattle.answers.specs.declared.kind.Kind.TheVariants as kinds
 use Rattle.answers.specs.declared.Answer.{Answer}
 use Rattle.answers.specs.declared.Outcome.{Outcome}
 use Rattle.answers.specs.declared.Outcome.TheVariants.{Taken, SetAside, Refused}
+use Rattle.answers.specs.declared.Beside.{Beside}
+use Rattle.answers.specs.declared.kind.LastingMessage.{LastingMessage}
+use Rattle.answers.specs.declared.kind.PassingMessage.{PassingMessage}
+use Rattle.answers.specs.declared.kind.Message.{Message}
 use Rattle.messages.specs.Beside.{region_wise_of, depth_of, unregistered_of}
 use Rattle.messages.specs.declared.Full.{Full}
 use Rattle.lent.specs.Lent.{Left, left}
 use Rattle.lent.proofs.Stores.{sets-front}
-use Rattle.record_row.specs.Fields.{region_wise_fields, depth_fields}
+use Rattle.record_row.specs.Fields.{region_wise_fields, depth_fields, lasting_fields, passing_fields, record_fields}
 use Rattle.record_row.specs.Handing.{fields_of, handed_over, wrote_by, wrote_fields}
 
 -- the lent row l, too short for xs or not
@@ -32,6 +39,46 @@ few n xs l h = simp (lt-leb _ _ h)
 pub fitting : (n : ℕ) (xs l : List ℕ) → length xs ≤ length l → left n (sets l 0 xs) ≡ handed_over n xs l
 unfolding handed_over
 fitting n xs l h = simp (le-leb _ _ h, sets-front xs l h)
+
+-- xs are the fields of m, which is x
+by-fields : {M : Type 0} (n : ℕ) (fields : M → List ℕ) {m x : M} (xs l : List ℕ) {o : Left ℕ} → m ≡ x → xs ≡ fields x → o ≡ handed_over n xs l → o ≡ handed_over n (fields m) l
+by-fields n fields xs l e f h = h ∙ ap (λ (ys : List ℕ). handed_over n ys l) (f ∙ sym (ap fields e))
+
+module _ (n e : ℕ) (b : Beside) where
+  pub by-lasting : {m x : LastingMessage} (xs l : List ℕ) {o : Left ℕ} → m ≡ x → xs ≡ e ∷ lasting_fields b x → o ≡ handed_over n xs l → o ≡ handed_over n (e ∷ lasting_fields b m) l
+  by-lasting = by-fields n (λ y. e ∷ lasting_fields b y)
+
+  pub by-passing : {m x : PassingMessage} (xs l : List ℕ) {o : Left ℕ} → m ≡ x → xs ≡ e ∷ passing_fields b x → o ≡ handed_over n xs l → o ≡ handed_over n (e ∷ passing_fields b m) l
+  by-passing = by-fields n (λ y. e ∷ passing_fields b y)
+
+-- a, whose message is m
+pub by-message : (n : ℕ) (a : Answer) {m : Message} (l : List ℕ) {o : Left ℕ} → a.message ≡ m → o ≡ handed_over n (a.extension ∷ record_fields a.beside m) l
+    → o ≡ handed_over n (fields_of a) l
+unfolding fields_of
+by-message n a l e = by-fields n (λ y. a.extension ∷ record_fields a.beside y) _ l e refl
+
+-- n is the number of the outcome o, and xs are the fields
+module _ (o : Outcome) (n : ℕ) (xs l : List ℕ) (number : n ≡ outcome_number o) where
+  -- the outcomes that are no refusal, by their places
+  abbrev given : List ℕ
+  given = 0 ∷ 1 ∷ []
+
+  wrote : (x : Outcome) → OneOf given (tag_of the_type x) → handed_over (outcome_number x) xs l ≡ wrote_by x xs l
+  unfolding wrote_by
+  wrote Taken h = refl
+  wrote SetAside h = refl
+  wrote (Refused why) h = absurd (miss given 2 tt h)
+
+  pub by-given : {ys : List ℕ} {r : Left ℕ} → OneOf given (tag_of the_type o) → ys ≡ xs → r ≡ handed_over n ys l → r ≡ wrote_by o xs l
+  by-given h f e = e ∙ ap (λ (zs : List ℕ). handed_over n zs l) f ∙ ap (λ (k : ℕ). handed_over k xs l) number ∙ wrote o h
+
+  unrefused : (x : Outcome) → ((why : Refusal) → x ≡ Refused why → ⊥) → OneOf given (tag_of the_type x)
+  unrefused Taken h = hit given 0 tt
+  unrefused SetAside h = hit given 1 tt
+  unrefused (Refused why) h = absurd (h why refl)
+
+  pub by-unrefused : {ys : List ℕ} {r : Left ℕ} → ((why : Refusal) → o ≡ Refused why → ⊥) → ys ≡ xs → r ≡ handed_over n ys l → r ≡ wrote_by o xs l
+  by-unrefused h f e = by-given (unrefused o h) f e
 
 -- ---- by the outcome, of whose answer xs are the fields
 

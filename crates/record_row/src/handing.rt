@@ -34,16 +34,23 @@ fn hand_brief(row: &mut [u64], a: Brief) -> Outcome
     }
 }
 
+// A payload of kind 155, by itself: its record has no room in the frame of the other kinds.
+#[inline(never)]
+fn hand_region_wise(row: &mut [u64], s: &[u8]) -> Outcome
+    requires { Payload s.now }
+    ensures { left (outcome_number result) row.new ≡ wrote_fields (answer_for Kind.RegionWise (reading_of Kind.RegionWise s.now)) row.old }
+{
+    let a = messages::region_wise(s);
+    hand(row, a.brief.outcome, a.brief.extension, a.record)
+}
+
 // The payload s of a listed kind.
 fn of_kind(row: &mut [u64], kind: Kind, s: &[u8]) -> Outcome
     requires { Payload s.now }
     ensures { left (outcome_number result) row.new ≡ wrote_fields (answer_for kind (reading_of kind s.now)) row.old }
 {
     match kind {
-        Kind::RegionWise => {
-            let a = messages::region_wise(s);
-            hand(row, a.brief.outcome, a.brief.extension, a.record)
-        }
+        Kind::RegionWise => hand_region_wise(row, s),
         Kind::Depth => {
             let a = messages::depth(s);
             hand(row, a.brief.outcome, a.brief.extension, a.record)

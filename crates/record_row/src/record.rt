@@ -253,6 +253,9 @@ impl Row for DepthValue {
 // What stands before the list, every entry of which follows.
 const BEFORE_MODEL: usize = 31;
 
+// All of them, after the extension count.
+pub const DEPTH_FIELDS: usize = 1 + BEFORE_MODEL + model::MOST;
+
 impl Row for Depth {
     ghost fields = { depth_fields };
 

@@ -54,7 +54,7 @@ apart true a b p differ = differ (alike_same a b p)
 apart false a b p differ = refl
 
 -- what a test for the same text answers
-tested : (r : Bool) (a b : List ℕ) → (r ≡ true → a ≡ b) × (a ≡ b → r ≡ true) → r ≡ alike a b
+pub tested : (r : Bool) (a b : List ℕ) → (r ≡ true → a ≡ b) × (a ≡ b → r ≡ true) → r ≡ alike a b
 tested true a b p = rw (p.0 refl) (sym (alike_refl b))
 tested false a b p = apart (alike a b) a b refl p.1
 

@@ -1,12 +1,14 @@
 -- Where a character is found: what a search of a list answers, and how far that lies from the place from which the list was cut.
 -- Assumes nothing.
-use Rattle.std.proofs.Common.{ℕ, suc, ◌+◌, ◌<◌, ◌≤◌, ◌≡◌, ◌∙◌, List, [], ◌∷◌, length, get_or, cond, eqb, Bool, true, false, refl, arith, Option, Some, None, MatchOption}
+use Rattle.std.proofs.Common.{ℕ, suc, ◌+◌, ◌<◌, ◌≤◌, ◌≡◌, ◌∙◌, List, [], ◌∷◌, length, get_or, cond, eqb, Bool, true, false, refl, ap, arith, Option, Some, None, MatchOption}
+use lib.ListN.{drop_of_length-le}
+use lib.Seq.{take-length}
 use Rattle.std.specs.Prelude.{if◌then◌else◌}
 use Rattle.std.proofs.lemmas.Bool.{false_from_ne_true}
 use Rattle.std.proofs.lemmas.List.Recursion.{is_position_or_len}
 use Rattle.std.proofs.lemmas.List.Sums.{position_or_len_is}
 use Rattle.memchr.specs.Find.{IsFirstByte, is_byte}
-use Rattle.words.specs.Place.{index_of}
+use Rattle.words.specs.Place.{index_of, slice}
 
 step : (t : Bool) (n : ℕ) → (if t then 0 else suc n) ≡ cond t 0 (1 + n)
 step true n = refl
@@ -32,3 +34,9 @@ found b from n l None h e =
 found b from n l (Some k) h e =
     let i = at_first b l k (omega (arith, h.0.high)) (λ j lt. false_from_ne_true _ (h.0.before j (omega arith) lt)) (λ lt. h.1) in
     omega (arith, e, i)
+
+-- past the end nothing is found
+pub found-over : (b : ℕ) (s : List ℕ) (i : ℕ) → length s ≤ i → i + index_of b (slice i (length s) s) ≡ i
+found-over b s i h =
+    let e : index_of b (slice i (length s) s) ≡ 0 = rw take-length (ap (index_of b) (drop_of_length-le s h) ∙ nothing b) in
+    omega (arith, e)

@@ -1,20 +1,16 @@
--- of three kinds their own record is handed out, and of any other what the message has
+-- of kinds 177 and 5 their own record is handed out, and of any other what the message has
 use Rattle.std.proofs.Common.{◌∙◌, ap}
 use Rattle.answers.specs.Listed.{nothing, reading_of}
 use Rattle.answers.specs.Answer.{answer_of}
 use Rattle.answers.specs.declared.Brief.{Brief}
-use Rattle.answers.specs.declared.kind.Kind.TheVariants.{RegionWise, Depth, Unregistered}
+use Rattle.answers.specs.declared.kind.Kind.TheVariants.{Depth, Unregistered}
 use Rattle.messages.proofs.Alone.{alone, unnamed}
-use Rattle.record_row.proofs.HandingLaws.{region-wise-wrote, depth-wrote, unregistered-wrote, by_answer}
+use Rattle.record_row.proofs.HandingLaws.{depth-wrote, unregistered-wrote, by_answer}
 use Rattle.record_row.proofs.handing.of_kind.Goals as goal
-
-pub returns-in-RegionWise : goal.returns-in-RegionWise
-returns-in-RegionWise c =
-    rw c.in-RegionWise.is (region-wise-wrote _ (reading_of RegionWise c.args.s.now) c.region_wise-a.ensures c.hand.ensures)
 
 pub returns-in-Depth : goal.returns-in-Depth
 returns-in-Depth c =
-    rw c.in-Depth.is (depth-wrote _ (reading_of Depth c.args.s.now) c.depth-a.ensures c.hand-in-Depth.ensures)
+    rw c.in-Depth.is (depth-wrote _ (reading_of Depth c.args.s.now) c.depth-a.ensures c.hand.ensures)
 
 pub returns-in-Unregistered : goal.returns-in-Unregistered
 returns-in-Unregistered c =

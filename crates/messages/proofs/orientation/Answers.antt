@@ -1,0 +1,10 @@
+-- from what its reader ensures
+use Rattle.std.proofs.Common.{refl, false}
+use Rattle.answers.specs.declared.kind.Kind.TheVariants.{Orientation}
+use Rattle.messages.proofs.Finish.{by-answered}
+use Rattle.messages.proofs.orientation.Goals as goal
+
+pub returns : goal.returns
+returns c =
+    rw (c.answered.ensures)
+    (by-answered Orientation c.args.s.now false c.read.result c.read.ensures refl (λ a q e. (refl, refl)))
